@@ -1,4 +1,4 @@
--- Going down a path, a name at a time.
+-- Going down a path, one name at a time.
 use Rattle.std.proofs.Common.{ℕ, ◌≡◌, ◌<◌, ◌+◌, length, take, Option, Some, None, refl, sym, subst, arith, inl, inr}
 use Rattle.std.specs.Option.{option_map}
 use Rattle.std.proofs.lemmas.Bool.{cases_eq}

@@ -1,4 +1,4 @@
--- What the ends of a call say of the tree.
+-- What the result of a call says about the tree.
 use Rattle.std.proofs.Common.{ℕ, ℤ, ◌≡◌, length, List, ◌∷◌, [], Result, Ok, Err, Option, Some, None, true, false, refl, sym, ap, ◌∙◌, subst, inl, inr}
 use Rattle.std.proofs.lemmas.Option.{same_Some}
 use Rattle.paths.specs.Prefixes.{Names}
@@ -33,7 +33,7 @@ unanswered old new call (Err Memory) ends is = ends
 pub soundly_answered : (old new : Tree) (call : Asked) (ended : Result Answer Refusal) (found : Option Answer) (answer : Answer) → Ends old call ended new → found ≡ answered ended → found ≡ Some answer → Treated old Sound call (record { answer = answer; failed = false }) new
 soundly_answered old new call ended found answer ends is some = record { device = Sound; treats = inl refl; performs = works_answered old new call ended answer ends (sym is ∙ some); failed = refl }
 
--- memory was refused for the work of a call that was let do it
+-- the device let the tree do its work, and memory was refused
 starved : (old new : Tree) (planned : Device) (call : Asked) (told : Told) → LetsWork planned → Starves memory_limit old call → new ≡ old → told ≡ failure ENOMEM → Treated old planned call told new
 starved old new planned call told lets starves stays is = record {
   device = Before ENOMEM;
@@ -56,7 +56,7 @@ failed_before old call errno told is = record {
   failed = ap (λ (t : Told). t.failed) is;
 }
 
--- a call that did its work, or was refused, and failed then
+-- a call that did its work, or was refused, and then failed
 failed_after : (old new : Tree) (call : Asked) (errno : ℤ) (told : Told) (own : Answer) → Works memory_limit old call own new → told ≡ failure errno → Treated old (After errno) call told new
 failed_after old new call errno told own works is = record {
   device = After errno;

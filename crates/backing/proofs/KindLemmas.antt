@@ -1,4 +1,4 @@
--- What the kind of an item says of it.
+-- What the kind of an item says about it.
 use Rattle.std.proofs.Common.{ℕ, ◌≡◌, List, Option, Some, None, refl}
 use Rattle.std.specs.Option.{option_map}
 use Rattle.backing.specs.declared.call.Kind.TheVariants as kinds

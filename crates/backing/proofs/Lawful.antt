@@ -1,4 +1,4 @@
--- A tree stays one: each path's parent is a folder.
+-- A tree remains a tree: each path's parent is a folder.
 use Rattle.std.proofs.Common.{ℕ, ◌≡◌, length, take, List, ◌++◌, ◌∷◌, [], Option, Some, None, IsSome, refl, sym, ap, ◌∙◌, subst, arith, rules, ◌⊎◌, inl, inr, append_assoc, append-nil, length-append}
 use Rattle.std.proofs.lemmas.Option.{none-some}
 use Rattle.paths.specs.Prefixes.{Name, Names}
@@ -33,13 +33,13 @@ take-prefix (x ∷ up) more = ap (λ (p : Names). x ∷ p) (take-prefix up more)
 pub longer : (up : Names) (name : Name) → up ++ name ∷ [] ≡ up → ⊥
 longer up name e = let l : length (up ++ name ∷ []) ≡ length up = ap (λ (p : Names). length p) e in omega (arith, l, length-append up (name ∷ []))
 
--- the way down to a path ends at its parent
+-- the parent of a path that can be reached is a folder
 pub parent_leads : (at : Tree) (up : Names) (name : Name) → Resolves at (up ++ name ∷ []) → at up ≡ Some Folder
 parent_leads at up name leads =
     let it = leads.down (length up) (omega (arith, length-append up (name ∷ []))) in
     subst (λ (p : Names). at p ≡ Some Folder) (take-prefix up (name ∷ [])) (folder_is (at (take (length up) (up ++ name ∷ []))) it)
 
--- an item where nothing stood
+-- an item where nothing was before
 pub with_new : (at : Tree) (p : Names) (item : Item) → IsTree at → Resolves at p → at p ≡ None → IsTree (with_item at p item)
 with_new at p item t leads free =
     let below : p ≡ [] → ⊥ = λ e. none-some Folder (sym (subst (λ (q : Names). at q ≡ None) e free) ∙ t.root) in
@@ -70,7 +70,7 @@ with_bytes at p before after t file =
           with_other at p (File after) up (no_folder up folder) ∙ folder;
     }
 
--- nothing where nothing stood below
+-- nothing where an item without children was before
 pub without_bare : (at : Tree) (p : Names) → IsTree at → (p ≡ [] → ⊥) → IsBare at p → IsTree (without at p)
 without_bare at p t below bare = record {
   root = without_other at p [] below ∙ t.root;
@@ -83,7 +83,7 @@ without_bare at p t below bare = record {
   ];
 }
 
--- what stands above a path stands
+-- what is above a path exists
 pub stands_above : (at : Tree) → IsTree at → (p more : Names) → IsSome (at (p ++ more)) → IsSome (at p)
 stands_above at t p [] some = subst (λ (q : Names). IsSome (at q)) (append-nil p) some
 stands_above at t p (name ∷ more) some =

@@ -1,4 +1,4 @@
--- The names of a folder, as the entries are gone through.
+-- The names of a folder, collected entry by entry.
 use Rattle.std.proofs.Common.{ℕ, ◌≡◌, ◌<◌, suc, zero, length, take, get_or, List, ◌++◌, ◌∷◌, [], Option, Some, None, refl, sym, ap, ◌∙◌, subst, arith, ◌⊎◌, inl, inr}
 use Rattle.std.specs.Option.{option_map}
 use Rattle.std.proofs.lemmas.Bool.{cond-true, cond-false, cases_Bool, true≢false}
@@ -31,7 +31,7 @@ kind_in_other c cs name ne = cond-false (is_name c.name name) (Some c.kind) (kin
 kind_in_same : (c : Child) (cs : List Child) → kind_in (c ∷ cs) c.name ≡ Some c.kind
 kind_in_same c cs = cond-true (is_name c.name c.name) (Some c.kind) (kind_in cs c.name) (is_name-same c.name)
 
--- a name that is pushed is found, and the others as before
+-- a name that is pushed is found, and the others are found as before
 kind_in-push_other : (cs : List Child) (c : Child) (name : Name) → (c.name ≡ name → ⊥) → kind_in (cs ++ c ∷ []) name ≡ kind_in cs name
 kind_in-push_other [] c name ne = kind_in_other c [] name ne
 kind_in-push_other (x ∷ cs) c name ne = elim (same_name x.name name) [
@@ -82,7 +82,7 @@ listed_other es x p cs fresh apart before = record {
   once = before.once;
 }
 
--- no earlier entry bears an entry's path
+-- no earlier entry has an entry's path
 pub look-take_none : (es : List TreeEntry) (i : ℕ) (d : TreeEntry) → IsDistinct es → i < length es → look (take i es) (get_or es i d).path ≡ None
 look-take_none [] i d apart within = absurd (omega arith)
 look-take_none (e ∷ es) zero d apart within = refl

@@ -1,4 +1,4 @@
--- What stands at a path after an entry was added, changed or removed.
+-- What is at a path after an entry was added, changed or removed.
 use Rattle.std.proofs.Common.{ℕ, ◌+◌, ◌<◌, ◌≡◌, suc, zero, true, List, [], ◌∷◌, ◌++◌, Option, Some, None, length, get_or, set, drop, drop-cons, add-one, refl, sym, ap, ◌∙◌, subst, arith, rules, IsSome, IfSome, is_some, inl, inr}
 use Rattle.std.specs.List.{remove}
 use Rattle.std.proofs.lemmas.Bool.{cond-true, cond-false, false≢true}
@@ -79,7 +79,7 @@ look_some (e ∷ es) (suc i) d within h = elim (same_path e.path (get_or es i d)
   | inr ne ↦ look_some es i d (omega arith) (sym (with_other (look es) e.path e.item (get_or es i d).path ne) ∙ h)
 ]
 
--- with one path for each entry, an entry is what its path leads to
+-- if each path comes once, an entry is what its path leads to
 pub look_at : (es : List TreeEntry) (i : ℕ) (d : TreeEntry) → IsDistinct es → i < length es → look es (get_or es i d).path ≡ Some (get_or es i d).item
 look_at [] i d apart within = absurd (omega arith)
 look_at (e ∷ es) zero d apart within = with_same (look es) e.path e.item
@@ -88,7 +88,7 @@ look_at (e ∷ es) (suc i) d apart within = elim (same_path e.path (get_or es i 
   | inr ne ↦ with_other (look es) e.path e.item (get_or es i d).path ne ∙ look_at es i d apart.1 (omega arith)
 ]
 
--- what is looked for stands behind the entries that do not bear its path
+-- what is looked for comes after the entries with other paths
 pub look-drop_found : (es : List TreeEntry) (q : Names) (i : ℕ) (d : TreeEntry) → i < length es → (get_or es i d).path ≡ q → look (drop i es) q ≡ Some (get_or es i d).item
 look-drop_found es q i d within same =
     rw (drop-cons es i d within) (subst (λ (p : Names). with_item (look (drop (suc i) es)) (get_or es i d).path (get_or es i d).item p ≡ Some (get_or es i d).item) same (with_same (look (drop (suc i) es)) (get_or es i d).path (get_or es i d).item))
@@ -164,7 +164,7 @@ pub tree-without : (es fs : List TreeEntry) (p : Names) → (p ≡ [] → ⊥) �
 tree-without es fs [] below h = absurd (below refl)
 tree-without es fs (x ∷ p) below h = fun_ext (λ q. tree-without_at es fs x p h q)
 
--- a path below the root is looked for among the entries
+-- a path below the root is looked up in the entries
 pub tree-below : (es : List TreeEntry) (p : Names) (name : Name) → tree_of es (p ++ name ∷ []) ≡ look es (p ++ name ∷ [])
 tree-below es [] name = refl
 tree-below es (x ∷ p) name = refl
@@ -173,7 +173,7 @@ pub tree-not_root : (es : List TreeEntry) (p : Names) → (p ≡ [] → ⊥) →
 tree-not_root es [] below = absurd (below refl)
 tree-not_root es (x ∷ p) below = refl
 
--- no entry bears the path
+-- no entry has the path
 pub look_none : (es : List TreeEntry) (q : Names) → ((k : ℕ) (d : TreeEntry) → k < length es → (get_or es k d).path ≡ q → ⊥) → look es q ≡ None
 look_none [] q none = refl
 look_none (e ∷ es) q none =
@@ -189,7 +189,7 @@ has_names es p name i d apart within path =
 pub is_bare : (es : List TreeEntry) (p : Names) → ((k : ℕ) (d : TreeEntry) (name : Name) → k < length es → (get_or es k d).path ≡ p ++ name ∷ [] → ⊥) → IsBare (tree_of es) p
 is_bare es p none = record { none = λ name. tree-below es p name ∙ look_none es (p ++ name ∷ []) (λ k d within. none k d name within) }
 
--- what a clause says of the value that a test found
+-- what a clause says about the value that a test found
 pub found_one : {A : Type 0} (P : A → Type 0) (o : Option A) → is_some o ≡ true → IfSome o P → (x : A) × P x
 found_one P None h p = absurd (false≢true h)
 found_one P (Some x) h p = (x, p)

@@ -35,11 +35,11 @@ same_path p q = elim (cases_Bool (is_path p q)) [
   | inr h ↦ inr (is_path-false p q h)
 ]
 
--- paths of other lengths are others
+-- paths of different lengths are different
 pub is_path-length : (p q : Names) → (length p ≡ length q → ⊥) → is_path p q ≡ false
 is_path-length p q ne = is_path-no p q (λ e. ne (ap (λ (r : Names). length r) e))
 
--- the test goes on behind the first i names of both
+-- the test continues after the first i names of both, if they agree there
 pub is_path-drop : (p q : Names) (i : ℕ) (d e : Name) → i < length p → i < length q → get_or p i d ≡ get_or q i e → is_path (drop i p) (drop i q) ≡ is_path (drop (i + 1) p) (drop (i + 1) q)
 is_path-drop p q i d e within within' same =
     rw (add-one, drop-cons p i d within, drop-cons q i e within', same, is_name-same (get_or q i e)) refl

@@ -1,4 +1,4 @@
--- Entries that get their new paths, from the last to the first.
+-- Entries get their new paths, from the last to the first.
 use Rattle.std.proofs.Common.{ℕ, ◌≡◌, ◌<◌, ◌≤◌, ◌+◌, ◌-◌, suc, zero, length, take, drop, set, get_or, List, ◌++◌, ◌∷◌, [], Option, refl, sym, ap, ◌∙◌, subst, arith}
 use Rattle.std.proofs.Math.Seq.{take-suc}
 use Rattle.std.proofs.lemmas.List.{same_from_push, length_push}
@@ -24,7 +24,7 @@ before_all (e ∷ es) (p ∷ ps) = ap (λ (xs : List TreeEntry). e ∷ xs) (befo
 pub before_first : (es : List TreeEntry) (ps : List (Option Names)) (n : ℕ) → n ≡ length es → es ≡ take n es ++ drop n (with_paths es ps)
 before_first es ps n e = subst (λ (k : ℕ). es ≡ take k es ++ drop k (with_paths es ps)) (sym e) (before_all es ps)
 
--- one more has it
+-- one more has its new path
 pub one_more : (es : List TreeEntry) (ps : List (Option Names)) (j : ℕ) (d : TreeEntry) (dp : Option Names) → length es ≡ length ps → j < length es
     → set (take (suc j) es ++ drop (suc j) (with_paths es ps)) j (with_path (get_or (take (suc j) es ++ drop (suc j) (with_paths es ps)) j d) (get_or ps j dp)) ≡ take j es ++ drop j (with_paths es ps)
 one_more [] ps j d dp same within = absurd (omega arith)
@@ -38,7 +38,7 @@ pub record Step (es new : List TreeEntry) (ps left' : List (Option Names)) (j : 
   pub left : left' ≡ take j ps
   pub set : new ≡ take j es ++ drop j (with_paths es ps)
 
--- one path was popped, and its entry has it
+-- one path was popped and set as that of its entry
 pub one_step : (es entries new : List TreeEntry) (ps left left' : List (Option Names)) (i : ℕ) (path : Option Names) → length es ≡ length ps → i ≤ length ps → i ≡ length left → left ≡ take i ps → left ≡ left' ++ path ∷ [] → entries ≡ take i es ++ drop i (with_paths es ps)
     → ((d : TreeEntry) → new ≡ set entries (i - 1) (with_path (get_or entries (i - 1) d) path)) → Step es new ps left' (i - 1)
 one_step [] entries new ps left left' i path same within count before popped was now =

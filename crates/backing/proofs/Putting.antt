@@ -62,7 +62,7 @@ pub file_below : (es : List TreeEntry) (p : Names) (bytes : List ℕ) → tree_o
 file_below es [] bytes file e = cc
 file_below es (x ∷ p) bytes file e = cc
 
--- a file whose bytes have changed, where its entry stands
+-- a file whose bytes have changed, at its entry
 pub file_changed : (es fs : List TreeEntry) (p : Names) (i : ℕ) (change : Item → Item) (before after : List ℕ) → IsEntryTree es → IsFoundAt es p i → tree_of es p ≡ Some (File before) → change (File before) ≡ File after
     → ((d : TreeEntry) → fs ≡ set es i (record (get_or es i d) { item = change (get_or es i d).item }))
     → (tree_of fs ≡ with_item (tree_of es) p (File after)) × IsEntryTree fs

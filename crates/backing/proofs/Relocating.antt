@@ -1,4 +1,4 @@
--- What a rename makes of a list of entries, and of the tree.
+-- What a rename does to a list of entries, and to the tree.
 use Rattle.std.proofs.Common.{◌≡◌, length, drop, map, true, false, cond, List, ◌++◌, ◌∷◌, [], Option, Some, None, IsSome, refl, sym, ap, ◌∙◌, subst, ◌⊎◌, inl, inr, append_assoc, append-nil}
 use mathlib.Core.Path.{fun_ext}
 use Rattle.std.proofs.lemmas.Bool.{cond-true, cond-false, true≢false, cases_Bool}
@@ -16,7 +16,7 @@ use Rattle.backing.proofs.PathLemmas.{same_path}
 use Rattle.backing.proofs.Looking.{with_same, with_other, without_other}
 use Rattle.backing.proofs.Lawful.{no_item, parent_leads}
 
--- where a path goes
+-- the new path of a path
 pub moved_in : (s t more : Names) → moved_path s t (s ++ more) ≡ Some (t ++ more)
 moved_in s t more =
     cond-true (is_prefix s (s ++ more)) (Some (t ++ drop (length s) (s ++ more))) None (is_prefix-append s more)
@@ -52,7 +52,7 @@ relocated_all s t (e ∷ es) = ap (λ (xs : List TreeEntry). with_path e (moved_
 abbrev pub all_moved : Names → Names → List TreeEntry → List TreeEntry
 all_moved s t es = map (λ (e : TreeEntry). relocated s t e) es
 
--- no entry stands at t or below it
+-- no entry is at t or below it
 abbrev pub Outside : Names → List TreeEntry → Type 0
 Outside t [] = Unit {0}
 Outside t (e ∷ es) = (is_prefix t e.path ≡ false) × Outside t es
@@ -67,7 +67,7 @@ outside t (e ∷ es) none =
     ] in
     (head, outside t es (λ more. sym (with_other (look es) e.path e.item (t ++ more) (apart more)) ∙ none more))
 
--- a path in s, as a path that begins so
+-- a path at or below s, as s followed by more names
 pub prefix_cases : (s p : Names) → ((more : Names) × (p ≡ s ++ more)) ⊎ (is_prefix s p ≡ false)
 prefix_cases s p = elim (cases_Bool (is_prefix s p)) [
   | inl h ↦ inl (is_prefix-more s p h)
@@ -165,7 +165,7 @@ three_ways P s t q one two three = elim (prefix_cases t q) [
   ]
 ]
 
--- what stood at t does not matter
+-- what was at t does not matter
 pub moved-without : (at : Tree) (s t : Names) → is_prefix s t ≡ false → moved (without at t) s t ≡ moved at s t
 moved-without at s t apart = fun_ext (λ q. three_ways (λ (r : Names). moved (without at t) s t r ≡ moved at s t r) s t q
     (λ more. moved_below (without at t) s t more ∙ (without_other at t (s ++ more) (λ e. no_prefix s t more apart e) ∙ sym (moved_below at s t more)))
@@ -208,12 +208,12 @@ up_no_prefix s up name far = elim (cases_Bool (is_prefix s up)) [
   | inr h ↦ h
 ]
 
--- a path that goes on ends by a name
+-- a longer path ends in a name
 pub last_of : (x : Name) (more : Names) → (up : Names) × (name : Name) × (x ∷ more ≡ up ++ name ∷ [])
 last_of x [] = ([], x, refl)
 last_of x (y ∷ more) = let it = last_of y more in (x ∷ it.0, it.1, ap (λ (r : Names). x ∷ r) it.2)
 
--- the item of a path below t came from below s, and so did its parent's
+-- the item of a path below t was below s before, and so was its parent
 below_parent : (at : Tree) (s t : Names) → IsTree at → (is_prefix s t ≡ false) → Resolves at t → (more up : Names) (name : Name) → up ++ name ∷ [] ≡ t ++ more → IsSome (moved at s t (t ++ more)) → moved at s t up ≡ Some Folder
 below_parent at s t tree apart leads [] up name path some =
     let is : up ++ name ∷ [] ≡ t = path ∙ append-nil t in

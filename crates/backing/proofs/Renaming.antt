@@ -1,4 +1,4 @@
--- How a rename ends.
+-- The results of a rename.
 use Rattle.std.proofs.Common.{ℕ, ℤ, ◌≡◌, suc, zero, Bool, false, cond, List, ◌++◌, ◌∷◌, [], map, Option, None, Result, Ok, Err, refl, sym, ap, ◌∙◌, subst, inl, inr}
 use Rattle.std.specs.Result.{IsErrAnd}
 use Rattle.std.specs.List.{remove}
@@ -43,7 +43,7 @@ map-remove f [] (suc i) = refl
 map-remove f (x ∷ xs) zero = refl
 map-remove {B = B} f (x ∷ xs) (suc i) = ap (λ (ys : List B). f x ∷ ys) (map-remove f xs i)
 
--- the list once the place is clear: it is lawful, its tree has nothing at t, and it goes where the paths say
+-- the list after the target is cleared: it is lawful, its tree has nothing at t, and the entries move as the paths say
 pub record Cleared (es cs new : List TreeEntry) (s t : Names) : Type 0 where
   pub went : new ≡ all_moved s t cs
   pub lawful : IsEntryTree cs

@@ -1,4 +1,4 @@
--- What an exchange makes of a list of entries, and of the tree.
+-- What an exchange does to a list of entries, and to the tree.
 use Rattle.std.proofs.Common.{ℤ, ◌≡◌, length, drop, map, true, false, Bool, ◌&&◌, cond, List, ◌++◌, ◌∷◌, [], Option, Some, None, IsSome, refl, sym, ap, ◌∙◌, subst, inl, inr, append_assoc, append-nil}
 use mathlib.Core.Path.{fun_ext}
 use Rattle.std.proofs.lemmas.Bool.{cond-true, cond-false, true≢false, cases_Bool}
@@ -36,7 +36,7 @@ exchanges_refused at s t errno other source room =
 abbrev pub Apart : Names → Names → Type 0
 Apart s t = (is_prefix s t ≡ false) × (is_prefix t s ≡ false)
 
--- a path below one of two that are apart is not below the other
+-- a path below one of two such paths is not below the other
 beside : (s t more : Names) → Apart s t → is_prefix s (t ++ more) ≡ false
 beside [] t more apart = absurd (true≢false apart.0)
 beside (x ∷ s) [] more apart = absurd (true≢false apart.1)
@@ -49,7 +49,7 @@ beside (x ∷ s) (y ∷ t) more apart = elim (cases_Bool (is_name x y)) [
   | inr other ↦ ap (λ (b : Bool). b && is_prefix s (t ++ more)) other
 ]
 
--- where a path goes
+-- the new path of a path
 abbrev pub swapped : Names → Names → Names → Names
 swapped s t p = cond (is_prefix s p) (t ++ drop (length s) p) (cond (is_prefix t p) (s ++ drop (length t) p) p)
 
@@ -79,14 +79,14 @@ each_way P s t q one two three = elim (prefix_cases s q) [
   ]
 ]
 
--- a second exchange leads back
+-- exchanging twice changes nothing
 swapped_back : (s t q : Names) → Apart s t → swapped s t (swapped s t q) ≡ q
 swapped_back s t q apart = each_way (λ (r : Names). swapped s t (swapped s t r) ≡ r) s t q
     (λ more. ap (λ (r : Names). swapped s t r) (swapped_first s t more) ∙ swapped_second s t more apart)
     (λ more. ap (λ (r : Names). swapped s t r) (swapped_second s t more apart) ∙ swapped_first s t more)
     (λ one two. ap (λ (r : Names). swapped s t r) (swapped_else s t q one two) ∙ swapped_else s t q one two)
 
--- the root stays
+-- the root does not move
 swapped_root : (s t : Names) → (s ≡ [] → ⊥) → (t ≡ [] → ⊥) → swapped s t [] ≡ []
 swapped_root s t low_s low_t = swapped_else s t [] (prefix_of_root s low_s) (prefix_of_root t low_t)
 
@@ -119,7 +119,7 @@ swapped_all s t (e ∷ es) =
     ap (λ (x : TreeEntry). x ∷ with_paths es (map (λ (e : TreeEntry). exchanged_path s t e.path) es)) (entry_swapped s t e)
     ∙ ap (λ (xs : List TreeEntry). swapped_entry s t e ∷ xs) (swapped_all s t es)
 
--- a path that goes to q is where q goes
+-- a path that moves to q is the new path of q
 path_swapped : (s t p q : Names) → Apart s t → is_path (swapped s t p) q ≡ is_path p (swapped s t q)
 path_swapped s t p q apart = elim (same_path p (swapped s t q)) [
   | inl e ↦
@@ -168,7 +168,7 @@ tree-swapped s t es low_s low_t apart = fun_ext (λ q. elim (root_cases q) [
       tree-not_root (all_swapped s t es) q low ∙ (look-swapped s t es q apart ∙ (sym (tree-not_root es (swapped s t q) there) ∙ sym (exchanged_at (tree_of es) s t q)))
 ])
 
--- a path that leads to one below s, and is not below it itself, leads to s
+-- a path that leads to one below s, and is not itself below s, leads to s
 leads_to : (s up : Names) (name : Name) → is_prefix s up ≡ false → is_prefix s (up ++ name ∷ []) ≡ true → s ≡ up ++ name ∷ []
 leads_to s up name far below =
     let (more, e) = is_prefix-more s (up ++ name ∷ []) below in
@@ -180,7 +180,7 @@ leads_to s up name far below =
           absurd (no_prefix s up it.0 far (same_from_push up (s ++ it.0) name it.1 whole).0)
     ] e
 
--- a parent goes where the parent of where its name goes is
+-- the new path of a parent is the parent of the new path
 parent_swapped : (at : Tree) (s t : Names) → IsTree at → Apart s t → Resolves at s × Resolves at t → (up : Names) (name : Name) → IsSome (at (swapped s t (up ++ name ∷ []))) → at (swapped s t up) ≡ Some Folder
 parent_swapped at s t tree apart leads up name = each_way (λ (r : Names). IsSome (at (swapped s t (r ++ name ∷ []))) → at (swapped s t r) ≡ Some Folder) s t up
     (λ more some.

@@ -1,4 +1,4 @@
--- Tests in a row.
+-- Several tests, one after another.
 use Rattle.std.proofs.Common.{ℤ, List, ◌++◌, ◌∷◌, [], inl, inr, Result, Ok, Err, OnOk, IfErr}
 use Rattle.backing.specs.Tree.{Tree}
 use Rattle.backing.specs.Calls.{Test, PassesAll, Refuses}
@@ -16,7 +16,7 @@ pub passes_both : (at : Tree) (tests more : List Test) → PassesAll at tests �
 passes_both at [] more p q = q
 passes_both at (test ∷ tests) more p q = (p.0, passes_both at tests more p.1 q)
 
--- what the last of several tests says, after the others
+-- what the last of several tests says, if the others passed
 pub then_ok : {A E P Q : Type 0} (r : Result A E) → (P → Q) → OnOk r P → OnOk r Q
 then_ok (Ok x) then p = then p
 then_ok (Err e) then p = tt

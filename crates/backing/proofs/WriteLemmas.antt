@@ -1,4 +1,4 @@
--- A write of some bytes.
+-- Writing some bytes.
 use Rattle.std.proofs.Common.{ℕ, ◌≡◌, ◌≤◌, ◌+◌, min, length, List, ◌∷◌, [], Some, refl, arith}
 use Rattle.paths.specs.Prefixes.{Names}
 use Rattle.backing.specs.declared.call.Answer.TheVariants.{Wrote}

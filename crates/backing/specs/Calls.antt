@@ -1,4 +1,4 @@
--- What a call answers and does on a tree: its tests in their order, and its work where all of them pass.
+-- What a call answers and does on a tree: its tests in order, and its work if all of them pass.
 use Rattle.std.specs.Prelude.{ℕ, ℤ, ◌≡◌, ◌≢◌, ◌<◌, ◌≤◌, ◌+◌, ◌⊎◌, Bool, true, false, if◌then◌else◌, List, [], ◌∷◌, ◌++◌, Option, Some, None, IsSome, length}
 use Rattle.std.specs.Option.{option_map}
 use Rattle.paths.specs.Prefixes.{Name, Names, is_name, is_prefix}
@@ -17,7 +17,7 @@ use Rattle.backing.specs.declared.call.TheConstants.{MAX_FILE_LEN}
 use Rattle.backing.specs.Files.{resized, written, read}
 use Rattle.backing.specs.Tree.{Tree, IsFile, IsFolder, Resolves, Stops, HasNames, IsBare, is_path, with_item, without, moved, exchanged, kind_of, size_of}
 
--- what is asked of a directory, wherever the paths and the bytes lie in memory
+-- a call of a directory, without the places of its paths and bytes in memory
 pub data Asked : Type 0 where
   AskStat : (p : Names) → Asked
   AskList : (p : Names) → Asked
@@ -54,20 +54,20 @@ asked (calls.SetPermissions p permissions) = AskSetPermissions p.now permissions
 asked (calls.SetOwner p uid gid) = AskSetOwner p.now uid gid
 asked (calls.SetTimes p accessed modified) = AskSetTimes p.now accessed modified
 
--- What a call needs of the tree. Each test has one way to fail, but for the way down to a path.
+-- What a call requires of the tree. Each test fails in one way only, except the test of the path above.
 pub data Test : Type 0 where
   BelowRoot : (p : Names) → Test  -- p is not the root, else EBUSY
-  Reached : (p : Names) → Test  -- folders lead down to p, else ENOENT or ENOTDIR
-  Present : (p : Names) → Test  -- something stands at p, else ENOENT
-  Free : (p : Names) → Test  -- nothing stands at p, else EEXIST
-  NoFolder : (p : Names) → Test  -- no folder stands at p, else EISDIR
-  NoFile : (p : Names) → Test  -- no file stands at p, else ENOTDIR
-  Bare : (p : Names) → Test  -- no name stands in p, else ENOTEMPTY
+  Reached : (p : Names) → Test  -- all names above the last one of p are folders, else ENOENT or ENOTDIR
+  Present : (p : Names) → Test  -- something is at p, else ENOENT
+  Free : (p : Names) → Test  -- nothing is at p, else EEXIST
+  NoFolder : (p : Names) → Test  -- no folder is at p, else EISDIR
+  NoFile : (p : Names) → Test  -- no file is at p, else ENOTDIR
+  Bare : (p : Names) → Test  -- nothing is in p, else ENOTEMPTY
   Differs : (s t : Names) → Test  -- t is not s, else EEXIST
   NotInto : (s t : Names) → Test  -- t is not below s, else EINVAL
   NotOver : (s t : Names) → Test  -- s is not below t, else ENOTEMPTY
-  NoFileOnFolder : (s t : Names) → Test  -- not a file onto a folder, else EISDIR
-  NoFolderOnFile : (s t : Names) → Test  -- not a folder onto a file, else ENOTDIR
+  NoFileOnFolder : (s t : Names) → Test  -- a file does not replace a folder, else EISDIR
+  NoFolderOnFile : (s t : Names) → Test  -- a folder does not replace a file, else ENOTDIR
   Fits : (limit : Option ℕ) (end : ℕ) → Test  -- a file may end there, else EFBIG
 
 -- How long a file may be, in a tree in memory. A directory that has no limit of its own has none here, and its device fails.
@@ -124,17 +124,17 @@ abbrev pub Refuses : Tree → List Test → ℤ → Type 0
 Refuses at [] errno = ⊥
 Refuses at (test ∷ tests) errno = Fails at test errno ⊎ (Passes at test × Refuses at tests errno)
 
--- the tests, or none of them
+-- the tests, or none if the first argument is true
 abbrev pub unless : Bool → List Test → List Test
 unless true tests = []
 unless false tests = tests
 
--- A write of no bytes fits everywhere.
+-- A write of no bytes always fits.
 abbrev pub end_of : ℕ → List ℕ → ℕ
 end_of offset [] = 0
 end_of offset (byte ∷ piece) = offset + length (byte ∷ piece)
 
--- the tests of a call, in their order
+-- the tests of a call, in order
 abbrev pub tests_of : Option ℕ → Asked → List Test
 tests_of limit (AskStat p) = Reached p ∷ Present p ∷ []
 tests_of limit (AskList p) = Reached p ∷ Present p ∷ NoFile p ∷ []
@@ -163,13 +163,13 @@ abbrev pub EachOnce : List Child → Type 0
 EachOnce [] = Unit {0}
 EachOnce (child ∷ children) = (kind_in children child.name ≡ None) × EachOnce children
 
--- the names that stand in p, with their kinds, each once and in any order
+-- the names in p, with their kinds, each once and in any order
 pub record Lists (at : Tree) (p : Names) (children : List Child) : Type 0 where
   pub stands : (name : Name) → kind_in children name ≡ option_map kind_of (at (p ++ name ∷ []))
   pub once : EachOnce children
 
--- The answer of a call whose tests pass, and the tree then. A tree is of kinds and bytes: it knows no details, so a STAT may
--- tell any, and what sets them leaves the tree as it is.
+-- The answer of a call whose tests pass, and the tree afterwards. A tree has only kinds and bytes and no details, so a
+-- STAT may report any details, and setting them does not change the tree.
 abbrev pub Does : Tree → Asked → Answer → Tree → Type 0
 Does old (AskStat p) answer new = ((item : Item) × (old p ≡ Some item) × ((details : Details) × (answer ≡ Stat (kind_of item) (size_of item) details))) × (new ≡ old)
 Does old (AskList p) answer new = ((children : List Child) × Lists old p children × (answer ≡ NamesAre children)) × (new ≡ old)
@@ -189,12 +189,12 @@ Does old (AskSetPermissions p permissions) answer new = (answer ≡ Done) × (ne
 Does old (AskSetOwner p uid gid) answer new = (answer ≡ Done) × (new ≡ old)
 Does old (AskSetTimes p accessed modified) answer new = (answer ≡ Done) × (new ≡ old)
 
--- The tree's own answer and effect: the call's work where all of its tests pass, else the error of the first that fails
--- and no change.
+-- The tree's own answer and effect: the call's work if all of its tests pass, otherwise the error of the first test
+-- that fails, without any change.
 abbrev pub Works : Option ℕ → Tree → Asked → Answer → Tree → Type 0
 Works limit old call answer new = (PassesAll old (tests_of limit call) × Does old call answer new) ⊎ ((errno : ℤ) × Refuses old (tests_of limit call) errno × (answer ≡ Fault errno) × (new ≡ old))
 
--- the calls that a tree in memory takes memory for
+-- the calls for which a tree in memory allocates
 abbrev pub TakesMemory : Asked → Type 0
 TakesMemory (AskStat p) = ⊥
 TakesMemory (AskList p) = Unit {0}
@@ -213,6 +213,6 @@ TakesMemory (AskSetPermissions p permissions) = ⊥
 TakesMemory (AskSetOwner p uid gid) = ⊥
 TakesMemory (AskSetTimes p accessed modified) = ⊥
 
--- Nothing but want of memory keeps the tree from doing the call's work.
+-- Only lack of memory prevents the tree from doing the call's work.
 abbrev pub Starves : Option ℕ → Tree → Asked → Type 0
 Starves limit old call = PassesAll old (tests_of limit call) × TakesMemory call

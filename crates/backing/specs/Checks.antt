@@ -1,9 +1,9 @@
--- The tests that calls share, in their order.
+-- The tests that several calls share, in order.
 use Rattle.std.specs.Prelude.{List, [], ◌∷◌}
 use Rattle.paths.specs.Prefixes.{Names}
 use Rattle.backing.specs.Calls.{Test, BelowRoot, Reached, Present, Free, NoFolder, NoFile, Differs, NotInto, NotOver, NoFileOnFolder, NoFolderOnFile, Bare}
 
--- something stands at p
+-- something is at p
 abbrev pub present_tests : Names → List Test
 present_tests p = Reached p ∷ Present p ∷ []
 
@@ -11,30 +11,30 @@ present_tests p = Reached p ∷ Present p ∷ []
 abbrev pub free_tests : Names → List Test
 free_tests p = Reached p ∷ Free p ∷ []
 
--- a file stands at p
+-- a file is at p
 abbrev pub file_tests : Names → List Test
 file_tests p = Reached p ∷ Present p ∷ NoFolder p ∷ []
 
--- a folder stands at p
+-- a folder is at p
 abbrev pub folder_tests : Names → List Test
 folder_tests p = Reached p ∷ Present p ∷ NoFile p ∷ []
 
--- something stands at s that may be renamed
+-- something is at s, and it may be renamed
 abbrev pub source_tests : Names → Names → List Test
 source_tests s t = BelowRoot s ∷ BelowRoot t ∷ Reached s ∷ Present s ∷ []
 
--- it is of a kind that may replace what stands at t
+-- it is of a kind that may replace what is at t
 abbrev pub kind_tests : Names → Names → List Test
 kind_tests s t = NoFileOnFolder s t ∷ NoFolderOnFile s t ∷ []
 
--- it may go to t
+-- it may be moved to t
 abbrev pub room_tests : Names → Names → List Test
 room_tests s t = NotInto s t ∷ NotOver s t ∷ Reached t ∷ NoFileOnFolder s t ∷ NoFolderOnFile s t ∷ Bare t ∷ []
 
--- it may go to t, where nothing stands
+-- it may be moved to t, with nothing at t
 abbrev pub new_tests : Names → Names → List Test
 new_tests s t = Differs s t ∷ NotInto s t ∷ NotOver s t ∷ Reached t ∷ Free t ∷ []
 
--- it may change places with what stands at t
+-- it may be exchanged with what is at t
 abbrev pub exchange_tests : Names → Names → List Test
 exchange_tests s t = NotInto s t ∷ NotInto t s ∷ Reached t ∷ Present t ∷ []

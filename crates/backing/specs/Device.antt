@@ -19,7 +19,7 @@ abbrev pub DoesPart : Tree → Asked → Tree → Type 0
 DoesPart old (AskWrite p offset piece) new = (n : ℕ) × (0 < n) × (n < length piece) × ((bytes : List ℕ) × (old p ≡ Some (File bytes)) × (new ≡ with_item old p (File (written bytes offset (take n piece)))))
 DoesPart old call new = ⊥
 
--- The answer and effect of a call, as the device treats it. What the tree itself refuses has no work to lose.
+-- The answer and effect of a call on this device. What the tree itself refuses has no work that could be lost.
 abbrev pub Performs : Option ℕ → Tree → Device → Asked → Answer → Tree → Type 0
 Performs limit old Sound call answer new = Works limit old call answer new
 Performs limit old (Before errno) call answer new = (answer ≡ Fault errno) × (new ≡ old)
@@ -41,17 +41,17 @@ one_if false = 0
 abbrev pub faulty : Device → ℕ
 faulty device = one_if (fails device)
 
--- so many more on a count of 64 bits, which stays when it is full
+-- a count of 64 bits increased by that much, which stays at its maximum
 abbrev pub counted : ℕ → ℕ → ℕ
 counted n by = n + min by (2 ^ 64 - 1 - n)
 
--- A call on a tree, as the device treats it, whose failure is one more, and nothing else is.
+-- A call on a tree through this device. A failure increases the count by one, and nothing else does.
 abbrev pub Counted : Option ℕ → Tree → ℕ → Asked → Answer → Tree → ℕ → Type 0
 Counted limit old before call answer new after = (device : Device) × Performs limit old device call answer new × (after ≡ counted before (faulty device))
 
 abbrev pub IsFault : Answer → Type 0
 IsFault answer = (errno : ℤ) × (answer ≡ Fault errno)
 
--- A count of failures over a call: as before, or one more, which a fault tells.
+-- The count of failures after a call: unchanged, or increased by one if the call gave a fault.
 abbrev pub Counts : ℕ → Answer → ℕ → Type 0
 Counts before answer after = (after ≡ before) ⊎ ((after ≡ counted before 1) × IsFault answer)

@@ -1,4 +1,4 @@
--- What a write makes of an item.
+-- An item after a write.
 use Rattle.std.specs.Prelude.{ℕ, List}
 use Rattle.backing.specs.declared.entries.Item.{Item}
 use Rattle.backing.specs.declared.entries.Item.TheVariants.{Folder, File}

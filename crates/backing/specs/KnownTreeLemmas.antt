@@ -1,4 +1,4 @@
--- What each directory's calls say of its count of failures, and of its tree.
+-- What each directory's calls say about its count of failures, and about its tree.
 use Rattle.std.proofs.Common.{ℕ, ◌≡◌, ◌+◌, ap, ◌∙◌, inl, inr, arith}
 use Rattle.backing.specs.declared.call.Answer.{Answer}
 use Rattle.backing.specs.Tree.{Tree, IsTree}
@@ -7,11 +7,11 @@ use Rattle.backing.specs.Device.{Device, Sound, Before, Within, After, Performs,
 use Rattle.backing.specs.Memory.{Memory, Gives, memory_tree}
 use Rattle.backing.specs.SharedTree.{Shows}
 
--- nothing more
+-- adding nothing
 pub counted_none : (n : ℕ) → counted n 0 ≡ n
 counted_none n = omega arith
 
--- one count after another
+-- adding twice
 pub counted_on : (n a b : ℕ) → counted (counted n a) b ≡ counted n (a + b)
 counted_on n a b = omega arith
 

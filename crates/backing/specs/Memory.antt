@@ -1,4 +1,4 @@
--- A tree in memory, which fails at planned calls.
+-- A tree in memory, which can be made to fail at planned calls.
 use Rattle.std.specs.Prelude.{ℕ, ℤ, ◌≡◌, ◌+◌, ◌-◌, ◌^◌, ◌==◌, ◌⊎◌, nat_lt, if◌then◌else◌, List, [], ◌∷◌, Option, Some, None, Result, Ok, Err}
 use Rattle.paths.specs.Prefixes.{Names}
 use Rattle.backing.specs.declared.call.Answer.{Answer}
@@ -14,7 +14,8 @@ use Rattle.backing.specs.Calls.{memory_limit, Asked, AskMake, AskMakeDir, AskWri
 use Rattle.backing.specs.Device.{Device, Sound, Before, Within, After, Performs, counted, fails, faulty}
 use Rattle.backing.specs.Entries.{tree_of}
 
--- what a memory tree is: what stands in it, how many calls were made, which of them are planned to fail, and how many failed
+-- the state of a memory tree: what is in it, how many calls were made, which of them are planned to fail, and how many
+-- failed
 pub record Memory : Type 0 where
   pub entries : List TreeEntry
   pub made : ℕ
@@ -24,44 +25,45 @@ pub record Memory : Type 0 where
 abbrev pub memory_tree : Memory → Tree
 memory_tree m = tree_of m.entries
 
--- how the device treats a call that such a failure is planned for
+-- what the device does with a call for which such a failure is planned
 abbrev pub device_of : Planned → Device
 device_of (planned.Before errno) = Before errno
 device_of (planned.After errno) = After errno
 
--- how the device treats call n
+-- what the device does with call n
 abbrev pub planned_at : List Plan → ℕ → Device
 planned_at [] n = Sound
 planned_at (plan ∷ plans) n = if plan.call == n then device_of plan.fault else planned_at plans n
 
--- how the device treats a call for which this is planned
+-- what the device does with a call for which this is planned
 abbrev pub treated_as : Option Planned → Device
 treated_as None = Sound
 treated_as (Some fault) = device_of fault
 
--- how the device treats the call after so many. When the count of calls is full, no failure comes any more.
+-- What the device does with the call that follows that many. When the count of calls is at its maximum, no more
+-- failures come.
 abbrev pub next_device : List Plan → ℕ → Device
 next_device plans made = if nat_lt made (2 ^ 64 - 1) then planned_at plans (made + 1) else Sound
 
--- the device lets the tree do its work, whatever it answers then
+-- the device lets the tree do its work, whatever the tree answers
 abbrev pub LetsWork : Device → Type 0
 LetsWork Sound = Unit {0}
 LetsWork (Before errno) = ⊥
 LetsWork (Within errno) = ⊥
 LetsWork (After errno) = Unit {0}
 
--- The device treats a call as planned; or memory was refused for its work, where it was let do it.
+-- The device does as planned; or it let the tree do its work, and memory was refused.
 abbrev pub Treats : Tree → Asked → Device → Device → Type 0
 Treats old call planned device = (device ≡ planned) ⊎ (LetsWork planned × Starves memory_limit old call × (device ≡ Before ENOMEM))
 
--- a call for which this was planned: how the device treated it, and whether it failed
+-- a call for which this was planned: what the device did, and whether it failed
 pub record Treated (old : Tree) (planned : Device) (call : Asked) (told : Told) (new : Tree) : Type 0 where
   pub device : Device
   pub treats : Treats old call planned device
   pub performs : Performs memory_limit old device call told.answer new
   pub failed : told.failed ≡ fails device
 
--- a call, and what it leaves: the next one by the plans, and each failure is counted
+-- a call and its result: it is the next one for the plans, and each failure is counted
 pub record Gives (old : Memory) (call : Asked) (answer : Answer) (new : Memory) : Type 0 where
   pub device : Device
   pub treats : Treats (memory_tree old) call (next_device old.plans old.made) device
@@ -70,23 +72,23 @@ pub record Gives (old : Memory) (call : Asked) (answer : Answer) (new : Memory) 
   pub old_is_tree : IsTree (memory_tree old)
   pub new_is_tree : IsTree (memory_tree new)
 
--- the same call, and whether the device failed
+-- the same, with whether the device failed
 pub record MakesCall (old : Memory) (call : Asked) (told : Told) (new : Memory) : Type 0 where
   pub gives : Gives old call told.answer new
   pub failed : told.failed ≡ fails gives.device
 
--- all but what stands in it
+-- everything except what is in it
 pub record SameBut (old new : Memory) : Type 0 where
   pub made : new.made ≡ old.made
   pub plans : new.plans ≡ old.plans
   pub failed : new.failed ≡ old.failed
 
--- what a folder that is put there is, and why it is not
+-- when a folder can be added at that path, and why it cannot
 abbrev pub PutsDir : Tree → Names → Result (Unit {0}) ℤ → Tree → Type 0
 PutsDir old p (Ok done) new = Works memory_limit old (AskMakeDir p None) Done new
 PutsDir old p (Err errno) new = Works memory_limit old (AskMakeDir p None) (Fault errno) new ⊎ (Starves memory_limit old (AskMakeDir p None) × (errno ≡ ENOMEM) × (new ≡ old))
 
--- a file is made and then written; where the write fails, the empty file stays
+-- a file is made and then written; if only the write fails, the empty file remains
 abbrev pub PutsFile : Tree → Names → List ℕ → Result (Unit {0}) ℤ → Tree → Type 0
 PutsFile old p bytes (Ok done) new = (mid : Tree) × Works memory_limit old (AskMake p None) Done mid × ((n : ℕ) × Works memory_limit mid (AskWrite p 0 bytes) (Wrote n) new)
 PutsFile old p bytes (Err errno) new = (Works memory_limit old (AskMake p None) (Fault errno) new ⊎ (Starves memory_limit old (AskMake p None) × (errno ≡ ENOMEM) × (new ≡ old))) ⊎ ((mid : Tree) × Works memory_limit old (AskMake p None) Done mid × (Works memory_limit mid (AskWrite p 0 bytes) (Fault errno) new ⊎ (Starves memory_limit mid (AskWrite p 0 bytes) × (errno ≡ ENOMEM) × (new ≡ mid))))

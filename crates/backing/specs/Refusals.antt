@@ -1,4 +1,4 @@
--- How a call on a memory tree ended.
+-- The result of a call on a memory tree.
 use Rattle.std.specs.Prelude.{ℤ, ◌≡◌, Result, Ok, Err, Option, Some, None, List}
 use Rattle.backing.specs.declared.call.Answer.{Answer}
 use Rattle.backing.specs.declared.refusal.Refusal.{Refusal}
@@ -8,13 +8,14 @@ use Rattle.errno.specs.declared.TheConstants.{ENOMEM}
 use Rattle.backing.specs.Tree.{Tree}
 use Rattle.backing.specs.Calls.{memory_limit, Asked, Test, tests_of, PassesAll, Refuses, Does, Starves}
 
--- It did its work; or the first test that failed gave the error; or there was no memory for its work. Only its work changes the tree.
+-- It did its work; or the first test that failed gives the error; or memory was refused for its work. Only its work
+-- changes the tree.
 abbrev pub Ends : Tree → Asked → Result Answer Refusal → Tree → Type 0
 Ends old call (Ok answer) new = PassesAll old (tests_of memory_limit call) × Does old call answer new
 Ends old call (Err (Errno errno)) new = Refuses old (tests_of memory_limit call) errno × (new ≡ old)
 Ends old call (Err Memory) new = Starves memory_limit old call × (new ≡ old)
 
--- why these tests did not all pass, unless they did and there was no memory
+-- why these tests did not all pass, or that they did and memory was refused
 abbrev pub Refusing : Tree → List Test → Refusal → Type 0
 Refusing at tests (Errno errno) = Refuses at tests errno
 Refusing at tests Memory = PassesAll at tests
@@ -34,7 +35,7 @@ abbrev pub settled : Result Answer Refusal → Result (Unit {0}) ℤ
 settled (Ok answer) = Ok tt
 settled (Err refusal) = Err (refusal_errno refusal)
 
--- the tree's own answer, a refusal too, and none where there was no memory
+-- the tree's own answer, which may be a refusal, or none if memory was refused
 abbrev pub answered : Result Answer Refusal → Option Answer
 answered (Ok answer) = Some answer
 answered (Err (Errno errno)) = Some (Fault errno)

@@ -5,12 +5,13 @@ use Rattle.backing.specs.Calls.{Asked}
 use Rattle.backing.specs.Device.{counted, faulty}
 use Rattle.backing.specs.Memory.{Memory, Gives}
 
--- The tree's own call under its lock: its answer, its effect and its counts, and its failure is one more of the hold too.
+-- The tree's own call under its lock: its answer, its effect and its counts. Its failure is added to the handle's count
+-- too.
 pub record CallsFor (old : Memory) (before : ℕ) (call : Asked) (answer : Answer) (new : Memory) (after : ℕ) : Type 0 where
   pub gives : Gives old call answer new
   pub counts : after ≡ counted before (faulty gives.device)
 
--- Such a call of some tree, as it stood while the call was made.
+-- Such a call on some tree, in whatever state that was when the call was made.
 pub record Shows (before : ℕ) (call : Asked) (answer : Answer) (after : ℕ) : Type 0 where
   pub old : Memory
   pub new : Memory

@@ -1,4 +1,4 @@
--- A tree is what stands at each path. The empty path is the root's.
+-- A tree says what is at each path. The empty path is the root's.
 use Rattle.std.specs.Prelude.{ℕ, ℤ, ◌≡◌, ◌<◌, ◌&&◌, Bool, true, false, if◌then◌else◌, [], ◌∷◌, ◌++◌, Option, Some, None, IsSome, length, take, drop}
 use Rattle.paths.specs.Prefixes.{Name, Names, is_name, is_prefix}
 use Rattle.backing.specs.declared.call.Kind.{Kind}
@@ -17,24 +17,24 @@ is_path (x ∷ p) (y ∷ q) = is_name x y && is_path p q
 is_path [] (y ∷ q) = false
 is_path (x ∷ p) [] = false
 
--- The root is a folder, and each other path's parent is a folder.
+-- The root is a folder, and the parent of each other path is a folder.
 pub record IsTree (at : Tree) : Type 0 where
   pub root : at [] ≡ Some Folder
   pub parents : (up : Names) (name : Name) → IsSome (at (up ++ name ∷ [])) → at up ≡ Some Folder
 
--- the same tree, but that the item stands at p
+-- the same tree, except that the item is at p
 abbrev pub with_item : Tree → Names → Item → Tree
 with_item at p item = λ q. if is_path p q then Some item else at q
 
--- the same tree, but that nothing stands at p
+-- the same tree, except that nothing is at p
 abbrev pub without : Tree → Names → Tree
 without at p = λ q. if is_path p q then None else at q
 
--- what stood at s or below it stands at t or below it, and no longer where it was
+-- what was at s or below it is at t or below it, and no longer where it was
 abbrev pub moved : Tree → Names → Names → Tree
 moved at s t = λ q. if is_prefix t q then at (s ++ drop (length t) q) else (if is_prefix s q then None else at q)
 
--- what stood at s or below it stands at t or below it, and the other way round
+-- what was at s or below it is at t or below it, and the other way round
 abbrev pub exchanged : Tree → Names → Names → Tree
 exchanged at s t = λ q. if is_prefix s q then at (t ++ drop (length s) q) else (if is_prefix t q then at (s ++ drop (length t) q) else at q)
 
@@ -57,28 +57,28 @@ IsFolder (Some Folder) = Unit {0}
 IsFolder (Some (File bytes)) = ⊥
 IsFolder None = ⊥
 
--- each folder on the way down to p is one
+-- each path above p is a folder
 pub record Resolves (at : Tree) (p : Names) : Type 0 where
   pub down : (k : ℕ) → k < length p → IsFolder (at (take k p))
 
--- why nothing stands below what stands here
+-- why nothing is below this
 abbrev pub Blocks : Option Item → ℤ → Type 0
 Blocks None errno = errno ≡ ENOENT
 Blocks (Some (File bytes)) errno = errno ≡ ENOTDIR
 Blocks (Some Folder) errno = ⊥
 
--- the first place on the way down to p, from the root on, that is no folder
+-- the first path above p, from the root on, that is not a folder
 pub record Stops (at : Tree) (p : Names) (errno : ℤ) : Type 0 where
   pub depth : ℕ
   pub above_path : depth < length p
   pub down : (k : ℕ) → k < depth → IsFolder (at (take k p))
   pub why : Blocks (at (take depth p)) errno
 
--- some name stands in the folder p
+-- the folder p has some name
 pub record HasNames (at : Tree) (p : Names) : Type 0 where
   pub name : Name
   pub stands : IsSome (at (p ++ name ∷ []))
 
--- no name does
+-- it has none
 pub record IsBare (at : Tree) (p : Names) : Type 0 where
   pub none : (name : Name) → at (p ++ name ∷ []) ≡ None

@@ -19,7 +19,7 @@ impl Model for Bytes {
 }
 
 impl Bytes {
-    /// No bytes. It takes no memory.
+    /// No bytes. It does not allocate.
     pub fn new(alloc: Global) -> Bytes
         ensures { result ≡ [] }
     {
@@ -28,14 +28,14 @@ impl Bytes {
         }
     }
 
-    /// The vector's bytes. It takes no memory.
+    /// The vector's bytes. It does not allocate.
     pub fn from_vec(buffer: Vec<u8>) -> Bytes
         ensures { result ≡ buffer.items }
     {
         Bytes { buffer }
     }
 
-    /// The bytes as a vector. It takes no memory.
+    /// The bytes as a vector. It does not allocate.
     pub fn into_vec(self) -> Vec<u8>
         ensures { result.items ≡ self }
     {
@@ -72,7 +72,8 @@ impl Bytes {
         Ok(Bytes::from_vec(Vec::from_slice(alloc, piece)?))
     }
 
-    /// Lays the piece over the bytes at byte `offset`, and fills a gap with zeros. Without memory they stay.
+    /// Writes the piece at byte `offset`, and fills a gap before it with zeros. If memory is refused, the bytes do not
+    /// change.
     pub fn write(&mut self, offset: usize, piece: &[u8]) -> Result<(), AllocError>
         requires { offset + length piece.now < 2 ^ 64 }
         ensures ok { OnOk result (self.new ≡ written self.old offset piece.now) }
@@ -85,7 +86,7 @@ impl Bytes {
         Ok(())
     }
 
-    /// Cuts the bytes to `size`, or fills them with zeros. Without memory they stay.
+    /// Truncates the bytes to `size`, or extends them with zeros. If memory is refused, the bytes do not change.
     pub fn set_len(&mut self, size: usize) -> Result<(), AllocError>
         ensures ok { OnOk result (self.new ≡ resized size self.old) }
         ensures err { OnErr result (self.new ≡ self.old) }
@@ -94,7 +95,7 @@ impl Bytes {
     }
 }
 
-/// The part of the bytes that a read is of.
+/// The bytes that a read returns.
 fn piece_of(bytes: &[u8], offset: u64, size: u32) -> &[u8]
     ensures { result.now ≡ read bytes.now offset size }
 {

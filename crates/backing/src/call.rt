@@ -6,10 +6,10 @@ use paths::{Name, Path};
 use payload::Payload;
 use std::marker::Model;
 
-/// No file of a memory tree may be longer, in bytes (own).
+/// The maximum length of a file in a memory tree, in bytes (own).
 pub const MAX_FILE_LEN: u64 = 1_048_576;
 
-/// What stands at a path.
+/// What is at a path.
 #[derive(Clone, Copy, Debug, PartialEq, Eq)]
 pub enum Kind {
     Folder,
@@ -19,42 +19,42 @@ pub enum Kind {
 /// A point in time.
 #[derive(Clone, Copy, Debug, PartialEq, Eq)]
 pub struct Time {
-    /// Since the beginning of 1970; 64 bits in two's complement.
+    /// Seconds since the beginning of 1970; 64 bits in two's complement.
     pub seconds: u64,
-    /// After these seconds; what a directory tells is less than 1,000,000,000.
+    /// Nanoseconds after these seconds; those that a directory reports are below 1,000,000,000.
     pub nanos: u32,
 }
 
-/// What a time is set to.
+/// The value that a time is set to.
 #[derive(Clone, Copy, Debug, PartialEq, Eq)]
 pub enum NewTime {
-    /// When the call is made.
+    /// The time when the call is made.
     Now,
     At(Time),
 }
 
-/// What a directory tells of what stands at a path, beside its kind and its size.
+/// What a directory reports about what is at a path, apart from its kind and its size.
 #[derive(Clone, Copy, Debug, PartialEq, Eq)]
 pub struct Details {
     /// The inode number.
     pub ino: u64,
     /// Permission bits: the lowest twelve of a mode.
     pub permissions: u32,
-    /// How many names it has, as the directory counts them; `u32::MAX` where they are more.
+    /// The number of hard links, as the directory counts them; `u32::MAX` if there are more.
     pub links: u32,
-    /// Whose it is.
+    /// The owner.
     pub uid: u32,
-    /// Which group's.
+    /// The group.
     pub gid: u32,
-    /// When it was last read.
+    /// The time of the last read.
     pub accessed: Time,
-    /// When its bytes, or the names in it, last changed.
+    /// The time when its bytes, or the names in it, last changed.
     pub modified: Time,
-    /// When its bytes or its details last changed.
+    /// The time when its bytes or its details last changed.
     pub changed: Time,
 }
 
-/// A name in a folder, and what stands there.
+/// A name in a folder, and the kind of what is there.
 #[derive(Drop)]
 pub struct Child {
     pub name: Name,
@@ -77,14 +77,14 @@ impl Model for Children {
 }
 
 impl Children {
-    /// The vector's names. It takes no memory.
+    /// The vector's names. It does not allocate.
     pub fn from_vec(list: Vec<Child>) -> Children
         ensures { result ≡ list.items }
     {
         Children { list }
     }
 
-    /// The names as a vector. It takes no memory.
+    /// The names as a vector. It does not allocate.
     pub fn into_vec(self) -> Vec<Child>
         ensures { result.items ≡ self }
     {
@@ -100,73 +100,74 @@ impl Children {
     }
 }
 
-/// What is asked of a directory. Paths lead down from its root.
+/// A call of a directory. Paths start at its root.
 #[derive(Clone, Copy)]
 pub enum Call<'a> {
-    /// What stands at the path.
+    /// Reports what is at the path.
     Stat(&'a Path),
-    /// The names in the folder.
+    /// Lists the names in the folder.
     List(&'a Path),
-    /// Makes an empty file, with these permission bits (the lowest twelve count), or else by the default of the process.
+    /// Makes an empty file, with these permission bits (only the lowest twelve count) or, without any, by the default
+    /// of the process.
     Make {
         path: &'a Path,
         permissions: Option<u32>,
     },
-    /// Makes an empty folder, with permission bits as `Make`.
+    /// Makes an empty folder, with permission bits as for `Make`.
     MakeDir {
         path: &'a Path,
         permissions: Option<u32>,
     },
     /// Removes the file.
     Remove(&'a Path),
-    /// Removes the folder, which has no names.
+    /// Removes the folder, which must be empty.
     RemoveDir(&'a Path),
-    /// Gives what stands at a path another one, with all that is below it.
+    /// Moves what is at a path to another, with everything below it.
     Rename {
         from: &'a Path,
         to: &'a Path,
     },
-    /// As `Rename`, to a path at which nothing stands.
+    /// Like `Rename`, to a path with nothing at it.
     RenameNew {
         from: &'a Path,
         to: &'a Path,
     },
-    /// Gives what stands at each of both paths the other one, with all that is below it.
+    /// Exchanges what is at the two paths, with everything below each.
     Exchange {
         first: &'a Path,
         second: &'a Path,
     },
-    /// At most `size` bytes of the file, from byte `offset` on.
+    /// Reads at most `size` bytes of the file, from byte `offset` on.
     Read {
         path: &'a Path,
         offset: u64,
         size: u32,
     },
-    /// Lays the data over the file at byte `offset`.
+    /// Writes the data to the file at byte `offset`.
     Write {
         path: &'a Path,
         offset: u64,
         data: &'a [u8],
     },
-    /// Cuts the file to `size` bytes, or fills it with zeros.
+    /// Truncates the file to `size` bytes, or extends it with zeros.
     SetLen {
         path: &'a Path,
         size: u64,
     },
-    /// Brings what stands at the path to the disk.
+    /// Writes what is at the path to the disk.
     Sync(&'a Path),
-    /// Sets the permission bits of what stands at the path: the lowest twelve count.
+    /// Sets the permission bits of what is at the path: only the lowest twelve count.
     SetPermissions {
         path: &'a Path,
         permissions: u32,
     },
-    /// Sets whose it is. What is `None` stays.
+    /// Sets the owner and the group. `None` leaves a value unchanged.
     SetOwner {
         path: &'a Path,
         uid: Option<u32>,
         gid: Option<u32>,
     },
-    /// Sets when it was last read and when it was last changed. What is `None` stays.
+    /// Sets the times of the last read and the last change. `None` leaves a time unchanged.
     SetTimes {
         path: &'a Path,
         accessed: Option<NewTime>,
@@ -174,7 +175,7 @@ pub enum Call<'a> {
     },
 }
 
-/// What a directory answers.
+/// A directory's answer to a call.
 #[derive(Drop)]
 pub enum Answer {
     Done,
@@ -188,6 +189,6 @@ pub enum Answer {
     Bytes(Payload),
     /// How many bytes were written.
     Wrote(usize),
-    /// Refused or failed, by an error number.
+    /// The call was refused or failed, with this error number.
     Fault(i32),
 }

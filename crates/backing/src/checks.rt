@@ -21,7 +21,7 @@ pub fn expect_below_root(path: &Path) -> Result<(), i32>
     if path.len() == 0 { Err(EBUSY) } else { Ok(()) }
 }
 
-/// Folders lead down to the path.
+/// All names above the last one of the path are folders.
 pub fn expect_reached(entries: &[TreeEntry], path: &Path) -> Result<(), i32>
     ensures ok { OnOk result (Resolves (tree_of entries.now) path.now) }
     ensures err { IfErr result (Stops (tree_of entries.now) path.now) }
@@ -37,7 +37,7 @@ pub fn expect_reached(entries: &[TreeEntry], path: &Path) -> Result<(), i32>
     Ok(())
 }
 
-/// Something stands there: what kind of item.
+/// Something is at the path; returns its kind.
 pub fn expect_present(entries: &[TreeEntry], path: &Path) -> Result<Kind, i32>
     ensures ok { OnOk result (PassesAll (tree_of entries.now) (present_tests path.now)) }
     ensures kind { IfOk result (λ kind. option_map kind_of (tree_of entries.now path.now) ≡ Some kind) }
@@ -50,7 +50,7 @@ pub fn expect_present(entries: &[TreeEntry], path: &Path) -> Result<Kind, i32>
     }
 }
 
-/// Nothing stands there.
+/// Nothing is at the path.
 pub fn expect_free(entries: &[TreeEntry], path: &Path) -> Result<(), i32>
     ensures ok { OnOk result (PassesAll (tree_of entries.now) (free_tests path.now)) }
     ensures err { IfErr result (Refuses (tree_of entries.now) (free_tests path.now)) }
@@ -62,7 +62,7 @@ pub fn expect_free(entries: &[TreeEntry], path: &Path) -> Result<(), i32>
     }
 }
 
-/// A file stands there: the place of its entry.
+/// A file is at the path; returns the index of its entry.
 pub fn expect_file(entries: &[TreeEntry], path: &Path) -> Result<usize, i32>
     ensures ok { OnOk result (PassesAll (tree_of entries.now) (file_tests path.now)) }
     ensures found { IfOk result (IsFoundAt entries.now path.now) }
@@ -77,7 +77,7 @@ pub fn expect_file(entries: &[TreeEntry], path: &Path) -> Result<usize, i32>
     }
 }
 
-/// A folder stands there.
+/// A folder is at the path.
 pub fn expect_folder(entries: &[TreeEntry], path: &Path) -> Result<(), i32>
     ensures ok { OnOk result (PassesAll (tree_of entries.now) (folder_tests path.now)) }
     ensures err { IfErr result (Refuses (tree_of entries.now) (folder_tests path.now)) }
@@ -88,7 +88,7 @@ pub fn expect_folder(entries: &[TreeEntry], path: &Path) -> Result<(), i32>
     }
 }
 
-/// The folder has no names.
+/// The folder is empty.
 pub fn expect_bare(entries: &[TreeEntry], path: &Path) -> Result<(), i32>
     requires { IsEntryTree entries.now }
     ensures ok { OnOk result (PassesAll (tree_of entries.now) (Bare path.now ∷ [])) }
@@ -101,7 +101,7 @@ pub fn expect_bare(entries: &[TreeEntry], path: &Path) -> Result<(), i32>
     }
 }
 
-/// A file may be so long.
+/// A file may have that length.
 pub fn expect_fits(entries: &[TreeEntry], end: u64) -> Result<(), i32>
     ensures ok { OnOk result (end ≤ MAX_FILE_LEN) }
     ensures err { IfErr result (Refuses (tree_of entries.now) (Fits memory_limit end ∷ [])) }

@@ -1,4 +1,4 @@
-//! What stands at a path beside its kind and its size. A memory tree tells it and keeps none of it.
+//! Details of what is at a path. A memory tree reports fixed ones and stores none.
 
 ghost use Rattle.std.specs.Prelude.{ℕ, Option};
 ghost use Rattle.backing.specs.declared.call.NewTime.{NewTime};
@@ -18,8 +18,8 @@ const BEGINNING: Time = Time {
     nanos: 0,
 };
 
-/// The details of all files, or of all folders: its owner may write it, everyone may read a file and enter a folder, and
-/// all other numbers are 0. What is set does not change them.
+/// The details of all files, or of all folders: the owner may write it, everyone may read a file and enter a folder,
+/// and all other numbers are 0. Setting details does not change them.
 pub fn details_of(kind: Kind) -> Details {
     let (permissions, links) = match kind {
         Kind::Folder => (0o755, 2),
@@ -37,7 +37,7 @@ pub fn details_of(kind: Kind) -> Details {
     }
 }
 
-/// Sets nothing: something stands there, and there is no more to do.
+/// Sets nothing: if something is at the path, there is nothing more to do.
 pub fn set_details(entries: &[TreeEntry], path: &Path) -> Result<Answer, Refusal>
     ensures permissions { (permissions : ℕ) → Ends (tree_of entries.now) (AskSetPermissions path.now permissions) result (tree_of entries.now) }
     ensures owner { (uid gid : Option ℕ) → Ends (tree_of entries.now) (AskSetOwner path.now uid gid) result (tree_of entries.now) }

@@ -1,4 +1,4 @@
-//! A tree below its root, kept as a flat list.
+//! A tree below its root, stored as a flat list.
 
 ghost use Rattle.std.specs.Prelude.{◌≡◌};
 
@@ -6,7 +6,7 @@ use crate::bytes::Bytes;
 use crate::call::Kind;
 use paths::Path;
 
-/// What stands at a path.
+/// What is at a path.
 #[derive(Drop)]
 pub enum Item {
     Folder,
@@ -36,7 +36,7 @@ impl Item {
     }
 }
 
-/// A path below the root, and what stands there.
+/// A path below the root, and what is at it.
 #[derive(Drop)]
 pub struct TreeEntry {
     pub path: Path,

@@ -1,4 +1,4 @@
-//! The call that exchanges what stands at two paths.
+//! The call that exchanges what is at two paths.
 
 ghost use Rattle.std.specs.Prelude.{◌≡◌, ◌≢◌, [], false, OnOk, OnErr, IfErr, IfOk, IsSome, map};
 ghost use Rattle.paths.specs.Prefixes.{is_prefix};
@@ -18,7 +18,7 @@ use errno::EINVAL;
 use paths::Path;
 use std::alloc::{AllocError, Global};
 
-/// Gives what stands at each of both paths the other one, with all that is below it.
+/// Exchanges what is at the two paths, with everything below each.
 pub fn exchange(
     alloc: Global,
     entries: &mut Vec<TreeEntry>,
@@ -38,7 +38,7 @@ pub fn exchange(
     Ok(Answer::Done)
 }
 
-/// Something stands at the second path, and neither path leads through the other.
+/// Something is at the second path, and neither path leads through the other.
 fn expect_other(entries: &[TreeEntry], first: &Path, second: &Path) -> Result<(), i32>
     ensures ok { OnOk result (PassesAll (tree_of entries.now) (exchange_tests first.now second.now)) }
     ensures err { IfErr result (Refuses (tree_of entries.now) (exchange_tests first.now second.now)) }
@@ -53,7 +53,7 @@ fn expect_other(entries: &[TreeEntry], first: &Path, second: &Path) -> Result<()
     Ok(())
 }
 
-/// Exchanges the items. All memory is taken before the first of them moves.
+/// Exchanges the items. All memory is allocated before the first of them moves.
 fn exchange_all(
     alloc: Global,
     entries: &mut Vec<TreeEntry>,
@@ -89,7 +89,7 @@ fn other_paths(
     Ok(paths)
 }
 
-/// The new path of what stands there, if it moves.
+/// The new path of what is at this path, if it moves.
 fn other_path(
     alloc: Global,
     first: &Path,

@@ -1,4 +1,4 @@
-//! A directory by calls on paths, and one in memory.
+//! A directory, as calls on paths, and one in memory.
 #![tactic(auto)]
 
 mod bytes;

@@ -1,4 +1,4 @@
-//! What stands at a path, in a tree that is kept as a flat list.
+//! Looking up what is at a path, in a tree stored as a flat list.
 
 ghost use Rattle.std.specs.Prelude.{true, false, ◌≡◌, ◌<◌, ◌+◌, ℕ, List, [], ◌∷◌, ◌++◌, None, Some, IfSome, IfNone};
 ghost use Rattle.std.specs.Option.{option_map};
@@ -24,7 +24,7 @@ pub fn are_same(names: &[Name], others: &[Name]) -> bool
     true
 }
 
-/// The place in the list of the entry at that path.
+/// The index of the entry with that path.
 pub fn index_of(entries: &[TreeEntry], names: &[Name]) -> Option<usize>
     ensures none { IfNone result (look entries.now names.now ≡ None) }
     ensures found { IfSome result (λ i. IsFoundAt entries.now names.now i) }
@@ -37,7 +37,7 @@ pub fn index_of(entries: &[TreeEntry], names: &[Name]) -> Option<usize>
     None
 }
 
-/// What kind of item stands at that path.
+/// The kind of what is at that path.
 pub fn kind_at(entries: &[TreeEntry], names: &[Name]) -> Option<Kind>
     ensures { result ≡ option_map kind_of (tree_of entries.now names.now) }
 {
@@ -49,7 +49,7 @@ pub fn kind_at(entries: &[TreeEntry], names: &[Name]) -> Option<Kind>
     Some(entry.item.kind())
 }
 
-/// The last name of the path, where the rest is that folder's.
+/// The last name of the path, if the rest is the path of that folder.
 pub fn child_of<'a>(path: &'a Path, folder: &[Name]) -> Option<&'a Name>
     ensures some { IfSome result (λ name. path.now ≡ folder.now ++ name.now ∷ []) }
     ensures none { IfNone result ((name : List ℕ) → path.now ≡ folder.now ++ name ∷ [] → ⊥) }
@@ -62,7 +62,7 @@ pub fn child_of<'a>(path: &'a Path, folder: &[Name]) -> Option<&'a Name>
     }
 }
 
-/// Whether a name stands in the folder.
+/// Whether the folder has any names.
 pub fn has_names(entries: &[TreeEntry], folder: &[Name]) -> bool
     requires { IsEntryTree entries.now }
     ensures yes { result ≡ true → HasNames (tree_of entries.now) folder.now }

@@ -1,4 +1,4 @@
-//! Calls that make an item.
+//! Calls that make a file or a folder.
 
 ghost use Rattle.std.specs.Prelude.{◌≡◌, ℕ, Option, OnOk, OnErr, IfErr};
 ghost use Rattle.backing.specs.Tree.{with_item};
@@ -15,7 +15,7 @@ use crate::refusal::Refusal;
 use paths::Path;
 use std::alloc::Global;
 
-/// Makes an empty file, whatever its permission bits are to be.
+/// Makes an empty file. The tree stores no permission bits.
 pub fn make(alloc: Global, entries: &mut Vec<TreeEntry>, path: &Path) -> Result<Answer, Refusal>
     requires { IsEntryTree entries.old.items }
     ensures ends { (permissions : Option ℕ) → Ends (tree_of entries.old.items) (AskMake path.now permissions) result (tree_of entries.new.items) }
@@ -25,7 +25,7 @@ pub fn make(alloc: Global, entries: &mut Vec<TreeEntry>, path: &Path) -> Result<
     Ok(Answer::Done)
 }
 
-/// Makes an empty folder, whatever its permission bits are to be.
+/// Makes an empty folder. The tree stores no permission bits.
 pub fn make_dir(entries: &mut Vec<TreeEntry>, path: &Path) -> Result<Answer, Refusal>
     requires { IsEntryTree entries.old.items }
     ensures ends { (permissions : Option ℕ) → Ends (tree_of entries.old.items) (AskMakeDir path.now permissions) result (tree_of entries.new.items) }
@@ -35,7 +35,7 @@ pub fn make_dir(entries: &mut Vec<TreeEntry>, path: &Path) -> Result<Answer, Ref
     Ok(Answer::Done)
 }
 
-/// Puts the item where nothing stands.
+/// Adds the item at a path with nothing at it.
 fn put(entries: &mut Vec<TreeEntry>, path: &Path, item: Item) -> Result<(), Refusal>
     requires { IsEntryTree entries.old.items }
     ensures passes { OnOk result (PassesAll (tree_of entries.old.items) (free_tests path.now)) }

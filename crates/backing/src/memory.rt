@@ -1,4 +1,4 @@
-//! A directory in memory, which fails at planned calls.
+//! A directory in memory, which can be made to fail at planned calls.
 
 ghost use Rattle.std.specs.Prelude.{◌≡◌, ℕ, [], ◌∷◌, OnOk, OnErr};
 ghost use Rattle.backing.specs.Memory.{Memory, Gives, MakesCall, PutsDir, PutsFile, SameBut, memory_tree};
@@ -16,7 +16,7 @@ use paths::Path;
 use std::alloc::{AllocError, Global};
 use std::marker::Model;
 
-/// A directory in memory. Contracts see what stands in it, its plans, and its counts of calls and of failures.
+/// A directory in memory. Contracts see what is in it, its plans, and its counts of calls and of failures.
 #[derive(Drop)]
 pub struct MemTree {
     alloc: Global,
@@ -39,7 +39,7 @@ impl Model for MemTree {
 }
 
 impl MemTree {
-    /// A tree of a root alone, of which no call is to fail. It takes no memory.
+    /// A tree with only a root, with no planned failures. It does not allocate.
     pub fn new(alloc: Global) -> MemTree
         ensures { result ≡ record { entries = []; made = 0; plans = []; failed = 0 } }
     {
@@ -52,8 +52,8 @@ impl MemTree {
         }
     }
 
-    /// Has that call fail, counted from 1 since the tree was made. It replaces what was planned for that call. A call
-    /// that has passed, and call 0, never come.
+    /// Makes that call fail, counted from 1 since the tree was made, and replaces any earlier plan for it. Calls that
+    /// were already made, and call 0, never come.
     pub fn fail_at(&mut self, call: u64, fault: PlannedFault) -> Result<(), AllocError>
         ensures ok { OnOk result (self.new ≡ record self.old { plans = (record { call = call; fault = fault }) ∷ self.old.plans }) }
         ensures err { OnErr result (self.new ≡ self.old) }
@@ -61,7 +61,8 @@ impl MemTree {
         add_plan(&mut self.planned, Plan { call, fault })
     }
 
-    /// Makes an empty folder, or answers the errno that the call would. It is no call: no plan and no count speaks of it.
+    /// Makes an empty folder, or returns the error number that the call would give. It does not count as a call, so
+    /// plans do not apply to it.
     pub fn put_dir(&mut self, path: &Path) -> Result<(), i32>
         ensures puts { PutsDir (memory_tree self.old) path.now result (memory_tree self.new) }
         ensures same { SameBut self.old self.new }
@@ -70,8 +71,8 @@ impl MemTree {
         put_dir_in(&mut self.standing, path)
     }
 
-    /// Makes a file and writes its bytes, or answers the errno that these calls would. Where the second would fail, the
-    /// empty file stays. It is no call: no plan and no count speaks of it.
+    /// Makes a file and writes its bytes, or returns the error number that these calls would give. If only the second
+    /// would fail, the empty file remains. It does not count as a call, so plans do not apply to it.
     pub fn put_file(&mut self, path: &Path, bytes: &[u8]) -> Result<(), i32>
         ensures puts { PutsFile (memory_tree self.old) path.now bytes.now result (memory_tree self.new) }
         ensures same { SameBut self.old self.new }
@@ -99,7 +100,7 @@ impl MemTree {
         told
     }
 
-    /// Makes a call for a hold on the tree, which counts its failure too.
+    /// Makes a call through a handle to the tree, which counts its failure too.
     pub(crate) fn call_for(&mut self, failures: &mut Failures, call: Call<'_>) -> Answer
         ensures { CallsFor self.old failures.old (asked call.entry) result self.new failures.new }
     {
@@ -107,7 +108,8 @@ impl MemTree {
     }
 }
 
-/// How many of the calls made through a hold on a tree have failed. Only the tree's own calls count it up.
+/// How many of the calls made through a handle to a tree have failed. Only the tree's own calls can increase it: so a
+/// handle that answered without calling the tree could not satisfy its contract.
 #[derive(Drop)]
 pub(crate) struct Failures {
     count: u64,

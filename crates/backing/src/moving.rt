@@ -1,4 +1,4 @@
-//! The call that gives items other paths.
+//! The calls that move items to other paths.
 
 ghost use Rattle.std.specs.Prelude.{◌≡◌, ◌≢◌, ◌<◌, [], false, OnOk, OnErr, IfErr, IfOk, Some, None, length, map, slice_set, slice_index_or};
 ghost use Rattle.std.specs.List.{remove};
@@ -20,7 +20,7 @@ use errno::{EEXIST, EINVAL, EISDIR, ENOTDIR, ENOTEMPTY};
 use paths::Path;
 use std::alloc::{AllocError, Global};
 
-/// Gives what stands at a path another one, with all that is below it.
+/// Moves what is at a path to another, with everything below it.
 pub fn rename(
     alloc: Global,
     entries: &mut Vec<TreeEntry>,
@@ -40,7 +40,7 @@ pub fn rename(
     Ok(Answer::Done)
 }
 
-/// As `rename`, to a path at which nothing stands.
+/// Like `rename`, to a path with nothing at it.
 pub fn rename_new(
     alloc: Global,
     entries: &mut Vec<TreeEntry>,
@@ -57,7 +57,7 @@ pub fn rename_new(
     Ok(Answer::Done)
 }
 
-/// Something stands there that may be renamed.
+/// Something is at the source, and it may be renamed.
 pub fn expect_source(entries: &[TreeEntry], from: &Path, to: &Path) -> Result<(), i32>
     ensures ok { OnOk result (PassesAll (tree_of entries.now) (source_tests from.now to.now)) }
     ensures err { IfErr result (Refuses (tree_of entries.now) (source_tests from.now to.now)) }
@@ -68,7 +68,7 @@ pub fn expect_source(entries: &[TreeEntry], from: &Path, to: &Path) -> Result<()
     Ok(())
 }
 
-/// It may go there.
+/// It may be moved to the target.
 fn expect_room(entries: &[TreeEntry], from: &Path, to: &Path) -> Result<(), i32>
     requires { IsEntryTree entries.now }
     ensures ok { OnOk result (PassesAll (tree_of entries.now) (room_tests from.now to.now)) }
@@ -85,7 +85,7 @@ fn expect_room(entries: &[TreeEntry], from: &Path, to: &Path) -> Result<(), i32>
     expect_bare(entries, to)
 }
 
-/// It may go there, where nothing stands.
+/// It may be moved to the target, which must have nothing at it.
 fn expect_new(entries: &[TreeEntry], from: &Path, to: &Path) -> Result<(), i32>
     ensures ok { OnOk result (PassesAll (tree_of entries.now) (new_tests from.now to.now)) }
     ensures err { IfErr result (Refuses (tree_of entries.now) (new_tests from.now to.now)) }
@@ -102,7 +102,7 @@ fn expect_new(entries: &[TreeEntry], from: &Path, to: &Path) -> Result<(), i32>
     expect_free(entries, to)
 }
 
-/// Neither a file goes onto a folder nor a folder onto a file.
+/// A file does not replace a folder, nor a folder a file.
 fn expect_kinds(entries: &[TreeEntry], from: &Path, to: &Path) -> Result<(), i32>
     ensures ok { OnOk result (PassesAll (tree_of entries.now) (kind_tests from.now to.now)) }
     ensures err { IfErr result (Refuses (tree_of entries.now) (kind_tests from.now to.now)) }
@@ -121,7 +121,7 @@ fn expect_kinds(entries: &[TreeEntry], from: &Path, to: &Path) -> Result<(), i32
     }
 }
 
-/// Moves the items. All memory is taken before the first of them moves.
+/// Moves the items. All memory is allocated before the first of them moves.
 fn move_all(
     alloc: Global,
     entries: &mut Vec<TreeEntry>,
@@ -159,7 +159,7 @@ fn new_paths(
     Ok(paths)
 }
 
-/// The new path of what stands there, if it moves.
+/// The new path of what is at this path, if it moves.
 pub fn new_path(
     alloc: Global,
     from: &Path,
@@ -176,7 +176,7 @@ pub fn new_path(
     Ok(Some(moved))
 }
 
-/// Takes away what stands where the items go.
+/// Removes what is at the target.
 fn clear_place(entries: &mut Vec<TreeEntry>, paths: &mut Vec<Option<Path>>, to: &Path)
     requires { length paths.old.items ≡ length entries.old.items }
     ensures { Clears entries.old.items entries.new.items paths.old.items paths.new.items to.now }
@@ -190,7 +190,7 @@ fn clear_place(entries: &mut Vec<TreeEntry>, paths: &mut Vec<Option<Path>>, to: 
     }
 }
 
-/// Gives each entry its new path.
+/// Sets the new path of each entry.
 pub fn set_paths(entries: &mut Vec<TreeEntry>, paths: Vec<Option<Path>>)
     requires { length paths.items ≡ length entries.old.items }
     ensures { entries.new.items ≡ with_paths entries.old.items paths.items }
@@ -203,7 +203,7 @@ pub fn set_paths(entries: &mut Vec<TreeEntry>, paths: Vec<Option<Path>>)
     }
 }
 
-/// Gives the entry its new path.
+/// Sets the new path of the entry.
 fn set_path(entries: &mut Vec<TreeEntry>, i: usize, path: Option<Path>)
     requires { i < length entries.old.items }
     ensures len { length entries.new.items ≡ length entries.old.items }

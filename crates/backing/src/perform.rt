@@ -23,7 +23,7 @@ use errno::ENOMEM;
 use paths::Path;
 use std::alloc::Global;
 
-/// What the tree itself answers and does.
+/// The answer and the effect of the tree itself.
 pub fn perform(
     alloc: Global,
     entries: &mut Vec<TreeEntry>,
@@ -53,7 +53,7 @@ pub fn perform(
     }
 }
 
-/// A call as the device treats it, for which this failure is planned.
+/// A call on the device, for which this failure is planned.
 pub fn treat(
     alloc: Global,
     entries: &mut Vec<TreeEntry>,
@@ -70,7 +70,7 @@ pub fn treat(
     }
 }
 
-/// A call that fails by plan.
+/// A call that fails as planned.
 fn treat_as_planned(
     alloc: Global,
     entries: &mut Vec<TreeEntry>,
@@ -87,7 +87,7 @@ fn treat_as_planned(
     }
 }
 
-/// A call that fails only where there is no memory.
+/// A call that fails only if memory is refused.
 fn treat_soundly(alloc: Global, entries: &mut Vec<TreeEntry>, call: Call<'_>) -> Told
     requires { IsEntryTree entries.old.items }
     ensures treated { Treated (tree_of entries.old.items) Sound (asked call.entry) result (tree_of entries.new.items) }
@@ -103,7 +103,7 @@ fn treat_soundly(alloc: Global, entries: &mut Vec<TreeEntry>, call: Call<'_>) ->
     }
 }
 
-/// The tree's own answer, a refusal too, and none where there was no memory.
+/// The tree's own answer, which may be a refusal, or none if memory was refused.
 fn answered(ended: Result<Answer, Refusal>) -> Option<Answer>
     ensures { result ≡ answered ended }
 {
@@ -124,7 +124,7 @@ fn treat_and_fail(alloc: Global, entries: &mut Vec<TreeEntry>, errno: i32, call:
     Told::failure(errno_after(ended, errno))
 }
 
-/// The error number of a call that fails after its work: want of memory comes first.
+/// The error number of a call that fails after its work: out of memory takes precedence.
 fn errno_after(ended: Result<Answer, Refusal>, errno: i32) -> i32
     ensures { result ≡ errno_after ended errno }
 {
@@ -135,7 +135,7 @@ fn errno_after(ended: Result<Answer, Refusal>, errno: i32) -> i32
     }
 }
 
-/// Puts a folder, as no call does.
+/// Adds a folder, without making a call.
 pub fn put_dir_in(entries: &mut Vec<TreeEntry>, path: &Path) -> Result<(), i32>
     requires { IsEntryTree entries.old.items }
     ensures puts { PutsDir (tree_of entries.old.items) path.now result (tree_of entries.new.items) }
@@ -144,7 +144,7 @@ pub fn put_dir_in(entries: &mut Vec<TreeEntry>, path: &Path) -> Result<(), i32>
     settle(make_dir(entries, path))
 }
 
-/// Puts a file, as no call does.
+/// Adds a file, without making a call.
 pub fn put_file_in(
     alloc: Global,
     entries: &mut Vec<TreeEntry>,

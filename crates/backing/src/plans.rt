@@ -1,4 +1,4 @@
-//! Which calls of a memory tree are to fail.
+//! Planned failures of a memory tree's calls.
 
 ghost use Rattle.std.specs.Prelude.{◌≡◌, ◌∷◌, OnOk, OnErr};
 ghost use Rattle.backing.specs.Memory.{planned_at, treated_as, next_device};
@@ -8,9 +8,9 @@ use std::alloc::AllocError;
 /// How a call fails, and with which error number.
 #[derive(Clone, Copy, Debug, PartialEq, Eq)]
 pub enum PlannedFault {
-    /// Before its work.
+    /// It fails before its work.
     Before(i32),
-    /// After its work, unless the tree refuses the call.
+    /// It fails after its work, unless the tree refuses the call.
     After(i32),
 }
 
@@ -21,7 +21,7 @@ pub struct Plan {
     pub fault: PlannedFault,
 }
 
-/// What is planned for that call. Of two plans for it the first counts.
+/// The failure planned for that call. If there are two plans for it, the first one counts.
 pub fn planned(plans: &[Plan], call: u64) -> Option<PlannedFault>
     ensures { treated_as result ≡ planned_at plans.now call }
 {
@@ -33,7 +33,7 @@ pub fn planned(plans: &[Plan], call: u64) -> Option<PlannedFault>
     None
 }
 
-/// Puts a plan before all others, so that it replaces the one that was there for its call.
+/// Adds a plan before all others, so that it replaces an earlier one for the same call.
 pub fn add_plan(plans: &mut Vec<Plan>, plan: Plan) -> Result<(), AllocError>
     ensures ok { OnOk result (plans.new.items ≡ plan ∷ plans.old.items) }
     ensures err { OnErr result (plans.new.items ≡ plans.old.items) }
@@ -42,7 +42,7 @@ pub fn add_plan(plans: &mut Vec<Plan>, plan: Plan) -> Result<(), AllocError>
     Ok(())
 }
 
-/// What is planned for the call after so many.
+/// The failure planned for the call that follows `made` calls.
 pub fn next_fault(plans: &[Plan], made: u64) -> Option<PlannedFault>
     ensures { treated_as result ≡ next_device plans.now made }
 {

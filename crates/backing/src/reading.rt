@@ -1,4 +1,4 @@
-//! Calls that change nothing.
+//! The calls that change nothing.
 
 ghost use Rattle.std.specs.Prelude.{◌≡◌, ◌<◌, ◌+◌, [], ◌∷◌, ◌++◌, None, Some, IfOk, IfSome, OnOk, length};
 ghost use Rattle.backing.specs.Tree.{IsFile, size_of};
@@ -16,7 +16,7 @@ use paths::{Name, Path};
 use payload::Payload;
 use std::alloc::{AllocError, Global};
 
-/// What stands at the path.
+/// What is at the path.
 pub fn stat(entries: &[TreeEntry], path: &Path) -> Result<Answer, Refusal>
     ensures { Ends (tree_of entries.now) (AskStat path.now) result (tree_of entries.now) }
 {
@@ -55,7 +55,7 @@ pub fn read(
     }
 }
 
-/// Nothing is to be brought to any disk.
+/// Does nothing: there is no disk to write to.
 pub fn sync(entries: &[TreeEntry], path: &Path) -> Result<Answer, Refusal>
     ensures { Ends (tree_of entries.now) (AskSync path.now) result (tree_of entries.now) }
 {
@@ -72,7 +72,7 @@ pub fn list(alloc: Global, entries: &[TreeEntry], path: &Path) -> Result<Answer,
     Ok(Answer::Names(children_of(alloc, entries, path)?))
 }
 
-/// The names that stand in the folder.
+/// The names in the folder.
 fn children_of(alloc: Global, entries: &[TreeEntry], folder: &Path) -> Result<Children, AllocError>
     requires { IsEntryTree entries.now }
     ensures { IfOk result (Lists (tree_of entries.now) folder.now) }
@@ -87,7 +87,7 @@ fn children_of(alloc: Global, entries: &[TreeEntry], folder: &Path) -> Result<Ch
     Ok(Children::from_vec(list))
 }
 
-/// One more name.
+/// Appends one more name.
 fn push_child(list: &mut Vec<Child>, name: &Name, kind: Kind) -> Result<(), AllocError>
     ensures { OnOk result (list.new.items ≡ list.old.items ++ (record { name = name.now; kind = kind }) ∷ []) }
 {

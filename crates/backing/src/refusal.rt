@@ -10,14 +10,14 @@ use std::alloc::{AllocError, AllocFailed};
 pub enum Refusal {
     /// One of its tests failed, with this error number.
     Errno(i32),
-    /// There is no memory.
+    /// Memory was refused.
     Memory,
 }
 
 impl Refusal {
     ghost use Rattle.backing.specs.Refusals.{refusal_errno};
 
-    /// Its error number.
+    /// The error number of the refusal.
     pub fn errno(self) -> i32
         ensures { result ≡ refusal_errno self }
     {

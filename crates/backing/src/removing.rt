@@ -1,4 +1,4 @@
-//! Calls that remove an item.
+//! The calls that remove an item.
 
 ghost use Rattle.std.specs.Prelude.{◌≡◌, ◌≢◌, [], IsSome};
 ghost use Rattle.std.specs.List.{remove};
@@ -25,7 +25,7 @@ pub fn remove(entries: &mut Vec<TreeEntry>, path: &Path) -> Result<Answer, Refus
     Ok(Answer::Done)
 }
 
-/// Removes the folder, which has no names.
+/// Removes the folder, which must be empty.
 pub fn remove_dir(entries: &mut Vec<TreeEntry>, path: &Path) -> Result<Answer, Refusal>
     requires { IsEntryTree entries.old.items }
     ensures ends { Ends (tree_of entries.old.items) (AskRemoveDir path.now) result (tree_of entries.new.items) }
@@ -38,7 +38,7 @@ pub fn remove_dir(entries: &mut Vec<TreeEntry>, path: &Path) -> Result<Answer, R
     Ok(Answer::Done)
 }
 
-/// Takes out what stands at the path, and has no names below it.
+/// Removes what is at the path, which has nothing below it.
 pub fn take_out(entries: &mut Vec<TreeEntry>, path: &Path)
     requires lawful { IsEntryTree entries.old.items }
     requires below_root { path.now ≢ [] }

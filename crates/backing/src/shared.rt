@@ -9,8 +9,8 @@ use crate::memory::{Failures, MemTree};
 use std::marker::Model;
 use std::sync::{Arc, Mutex, Wait};
 
-/// One thread's hold on a memory tree that others call too. Each call waits for the tree's lock. Contracts see how many of
-/// the calls made through this hold have failed.
+/// One thread's handle to a memory tree that other threads call too. Each call waits for the tree's lock. Contracts see
+/// how many of the calls made through this handle have failed.
 #[derive(Drop)]
 pub struct Shared<H: Wait + Drop> {
     rt: H,
@@ -25,7 +25,8 @@ impl<H: Wait + Drop> Model for Shared<H> {
 }
 
 impl<H: Wait + Drop> Shared<H> {
-    /// A hold on the tree through which no call was made yet.
+    /// A handle to the tree, through which no call was made yet. It has a runtime of its own, since a call is not
+    /// passed one.
     pub fn new(rt: H, tree: Arc<Mutex<MemTree>>) -> Shared<H>
         ensures { result ≡ 0 }
     {
@@ -36,7 +37,7 @@ impl<H: Wait + Drop> Shared<H> {
         }
     }
 
-    /// How many of the calls made through this hold have failed.
+    /// How many of the calls made through this handle have failed.
     pub fn failures(&self) -> u64
         ensures { result ≡ self.now }
     {

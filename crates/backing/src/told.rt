@@ -1,4 +1,4 @@
-//! What came of a call.
+//! The result of a call.
 
 ghost use Rattle.std.specs.Prelude.{◌≡◌, true};
 ghost use Rattle.backing.specs.Device.{counted, one_if};
@@ -6,7 +6,7 @@ ghost use Rattle.backing.specs.declared.call.Answer.TheVariants as Answer;
 
 use crate::call::Answer;
 
-/// What a call answers, and whether the device failed in it.
+/// A call's answer, and whether the device failed.
 #[derive(Drop)]
 pub struct Told {
     pub answer: Answer,
@@ -24,7 +24,7 @@ impl Told {
         }
     }
 
-    /// The answer. A failure of the device counts as one more.
+    /// The answer. A failure of the device is added to the count.
     pub fn into_answer(self, failures: &mut u64) -> Answer
         ensures answer { result ≡ self.answer }
         ensures count { failures.new ≡ counted failures.old (one_if self.failed) }
@@ -34,7 +34,7 @@ impl Told {
     }
 }
 
-/// One failure more where the device failed. A count that is full stays.
+/// Counts one more failure if the device failed. The count stays at its maximum.
 pub fn count(failures: &mut u64, failed: bool)
     ensures { failures.new ≡ counted failures.old (one_if failed) }
 {

@@ -1,4 +1,4 @@
-//! Calls that change a file's bytes.
+//! The calls that change a file's bytes.
 
 ghost use Rattle.std.specs.Prelude.{◌≡◌, ◌<◌, ◌+◌, ◌^◌, OnOk, OnErr, length, slice_set, slice_index_or};
 ghost use Rattle.backing.specs.Calls.{AskWrite, AskSetLen};
@@ -14,7 +14,7 @@ use crate::refusal::Refusal;
 use paths::Path;
 use std::alloc::AllocError;
 
-/// Lays the piece over the file.
+/// Writes the piece to the file.
 pub fn write(
     entries: &mut Vec<TreeEntry>,
     path: &Path,
@@ -34,7 +34,7 @@ pub fn write(
     Ok(Answer::Wrote(piece.len()))
 }
 
-/// Cuts the file, or fills it with zeros.
+/// Truncates the file, or extends it with zeros.
 pub fn set_len(entries: &mut Vec<TreeEntry>, path: &Path, size: u64) -> Result<Answer, Refusal>
     requires { IsEntryTree entries.old.items }
     ensures ends { Ends (tree_of entries.old.items) (AskSetLen path.now size) result (tree_of entries.new.items) }
@@ -46,7 +46,7 @@ pub fn set_len(entries: &mut Vec<TreeEntry>, path: &Path, size: u64) -> Result<A
     Ok(Answer::Done)
 }
 
-/// Lays the piece over the bytes of that entry's file.
+/// Writes the piece to the file of that entry.
 fn write_at(
     entries: &mut Vec<TreeEntry>,
     i: usize,
@@ -62,7 +62,7 @@ fn write_at(
     write_item(&mut entry.item, offset, piece)
 }
 
-/// Gives the file of that entry another length.
+/// Sets the length of the file of that entry.
 fn set_len_at(entries: &mut Vec<TreeEntry>, i: usize, size: usize) -> Result<(), AllocError>
     requires within { i < length entries.old.items }
     ensures ok { OnOk result ((d : TreeEntry) → entries.new.items ≡ slice_set entries.old.items i (entry_resized (slice_index_or entries.old.items i d) size)) }
@@ -72,7 +72,7 @@ fn set_len_at(entries: &mut Vec<TreeEntry>, i: usize, size: usize) -> Result<(),
     resize_item(&mut entry.item, size)
 }
 
-/// Lays the piece over the bytes, if it is a file.
+/// Writes the piece to the bytes, if the item is a file.
 fn write_item(item: &mut Item, offset: usize, piece: &[u8]) -> Result<(), AllocError>
     requires { offset + length piece.now < 2 ^ 64 }
     ensures ok { OnOk result (item.new ≡ item_written item.old offset piece.now) }
@@ -84,7 +84,7 @@ fn write_item(item: &mut Item, offset: usize, piece: &[u8]) -> Result<(), AllocE
     }
 }
 
-/// Gives the bytes another length, if it is a file.
+/// Sets the number of bytes, if the item is a file.
 fn resize_item(item: &mut Item, size: usize) -> Result<(), AllocError>
     ensures ok { OnOk result (item.new ≡ item_resized item.old size) }
     ensures err { OnErr result (item.new ≡ item.old) }

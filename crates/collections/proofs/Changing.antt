@@ -1,4 +1,4 @@
--- A sum after one key came, went or was given something else: what a running counter needs.
+-- A sum after one key was added, removed or changed, as a running counter needs it.
 use Rattle.std.proofs.Common.{ℕ, ◌+◌, ◌-◌, ◌<◌, ◌≤◌, ◌≡◌, ◌≢◌, ◌==◌, true, false, if◌then◌else◌, List, [], ◌∷◌, Option, Some, None, AllPairs, Contains, is_some, length, get_or, refl, sym, ap, ◌∙◌, subst, inl, inr, arith}
 use Rattle.std.specs.Prelude.{option_map, sum_by, unwrap_or}
 use Rattle.std.specs.List.{remove}
@@ -14,12 +14,12 @@ use Rattle.collections.proofs.Members.{apart_cons, cases_in, first_in, later_in}
 true_false : true ≡ false → ⊥
 true_false e = cc
 
--- equal weights of all members make equal sums
+-- if all members have equal weights, the sums are equal
 sum_same : (f g : ℕ → ℕ) (ks : List ℕ) → ((k : ℕ) → Contains ks k → f k ≡ g k) → sum_by f ks ≡ sum_by g ks
 sum_same f g [] same = refl
 sum_same f g (k ∷ ks) same = let one = same k (first_in k ks) in let more = sum_same f g ks (λ j h. same j (later_in k ks j h)) in omega (arith, one, more, sum_by-cons f k ks, sum_by-cons g k ks)
 
--- who is in a list is in it without another, and the other way round
+-- what is in a list is in it without another element, and the other way round
 in_remove : (ys : List ℕ) (i x y : ℕ) → i < length ys → get_or ys i x ≡ x → x ≢ y → Contains ys y → Contains (remove ys i) y
 in_remove ys i x y inside e ne (k, within, is) =
     let shorter = length-remove ys i inside in
@@ -41,7 +41,7 @@ was_in ys i y inside (k, within, is) =
       | inr later ↦ (k + 1, omega arith, sym (get_or-remove_above ys i y k (omega arith) inside) ∙ is)
     ]
 
--- who is taken out of distinct keys is in them no more
+-- what is removed from distinct keys is no longer among them
 out_of : (ys : List ℕ) (i y : ℕ) → AllPairs (λ j k. j ≢ k) ys → i < length ys → Contains (remove ys i) y → get_or ys i y ≢ y
 out_of ys i y apart inside (k, within, is) same =
     let shorter = length-remove ys i inside in
@@ -72,7 +72,7 @@ module _ {X : Type 0} (at : ℕ → Option X) (weight : X → ℕ) (n : ℕ) whe
   come_other : (y : X) (m : ℕ) → n ≢ m → come y m ≡ at m
   come_other y m ne = cond-false (n == m) (Some y) (at m) (ne_eqb n m ne)
 
-  -- n goes
+  -- the sum after n is removed
   pub sum_without : (x : X) (s t : ℕ) → at n ≡ Some x → IsSum at weight s → t + weight x ≡ s → IsSum gone weight t
   sum_without x s t here sum less =
       let it = (sum.exact n).1 (ap (λ (o : Option X). is_some o) here) in
@@ -98,7 +98,7 @@ module _ {X : Type 0} (at : ℕ → Option X) (weight : X → ℕ) (n : ℕ) whe
         total_is = omega arith;
       }
 
-  -- n comes
+  -- the sum after n is added
   pub sum_with : (y : X) (s : ℕ) → at n ≡ None → IsSum at weight s → IsSum (come y) weight (s + weight y)
   sum_with y s none sum =
       let ks = sum.keys in
@@ -123,7 +123,7 @@ module _ {X : Type 0} (at : ℕ → Option X) (weight : X → ℕ) (n : ℕ) whe
         total_is = omega arith;
       }
 
--- what stands somewhere is part of the sum
+-- the weight of one element is part of the sum
 pub part_of_sum : {X : Type 0} (at : ℕ → Option X) (weight : X → ℕ) (n : ℕ) (x : X) (s : ℕ) → at n ≡ Some x → IsSum at weight s → weight x ≤ s
 part_of_sum {X} at weight n x s here sum =
     let it = (sum.exact n).1 (ap (λ (o : Option X). is_some o) here) in
@@ -142,7 +142,7 @@ gone_here at n y m = elim (cases_eq n m) [
 gone_then : {X : Type 0} (at : ℕ → Option X) (n : ℕ) (y : X) → ◌≡◌ {A = ℕ → Option X} (λ m. if n == m then Some y else (if n == m then None else at m)) (λ m. if n == m then Some y else at m)
 gone_then at n y = fun_ext (gone_here at n y)
 
--- n is given something else
+-- the sum after the value of n changes
 pub sum_changed : {X : Type 0} (at : ℕ → Option X) (weight : X → ℕ) (n : ℕ) (x y : X) (s t : ℕ) → at n ≡ Some x → IsSum at weight s → t + weight x ≡ s + weight y → IsSum (λ m. if n == m then Some y else at m) weight t
 sum_changed {X} at weight n x y s t here sum more =
     let gone : ℕ → Option X = λ m. if n == m then None else at m in

@@ -28,7 +28,7 @@ module _ {K V : Type 0} where
   cons : (e : K × Option V) (es : List (K × Option V)) → living (e ∷ es) ≡ weight e.1 + living es
   cons e es = sum_by-cons (λ (x : K × Option V). weight x.1) e es
 
-  -- a write of what stands under a key that has an entry
+  -- the number of values after a write to an existing entry
   pub living_set : (t : K → Bool) (es : List (K × Option V)) (w o : Option V) → lookup t es ≡ Some o → living (set_value t es w) + weight o ≡ living es + weight w
   living_set t [] w o h = absurd (none-some o h)
   living_set t (e ∷ es) w o h = elim (cases_Bool (t e.0)) [
@@ -41,7 +41,7 @@ module _ {K V : Type 0} where
         rw miss (omega (arith, rest, cons e (set_value t es w), cons e es))
   ]
 
-  -- a value that is put under a key, which may have an entry
+  -- the number of values after one is put under a key, which may have an entry
   pub living_put : (eq : K → K → Bool) (es : List (K × Option V)) (k : K) (v : V) → living (insert_entry eq es k (Some v)) + weight (joined (lookup (eq k) es)) ≡ living es + 1
   living_put eq [] k v = refl
   living_put eq (e ∷ es) k v = elim (cases_Bool (eq k e.0)) [
@@ -51,7 +51,7 @@ module _ {K V : Type 0} where
         rw miss (omega (arith, rest, cons e (insert_entry eq es k (Some v)), cons e es))
   ]
 
-  -- where no entry has a value nothing is found
+  -- if no entry has a value, nothing is found
   pub none_living : (t : K → Bool) (es : List (K × Option V)) → living es ≡ 0 → joined (lookup t es) ≡ None
   none_living t [] h = refl
   none_living t (e ∷ es) h = elim (cases_Bool (t e.0)) [
@@ -59,7 +59,7 @@ module _ {K V : Type 0} where
     | inr miss ↦ rw miss (none_living t es (omega (arith, h, cons e es)))
   ]
 
-  -- entries behind the first so many, where none of those has a value
+  -- only the first entries count if all later ones have no value
   pub found_kept : (t : K → Bool) (es : List (K × Option V)) (kept : ℕ) → ((j : ℕ) (d : K × Option V) → kept ≤ j → j < length es → (get_or es j d).1 ≡ None) → joined (lookup t (take kept es)) ≡ joined (lookup t es)
   found_kept t [] zero behind = refl
   found_kept t [] (suc kept) behind = refl
@@ -77,7 +77,7 @@ module _ {K V : Type 0} where
         | inr miss ↦ rw miss rest
       ]
 
-  -- who has no entry has none among the first so many
+  -- a key without an entry has none among the first ones either
   pub none_kept : (t : K → Bool) (es : List (K × Option V)) (kept : ℕ) → lookup t es ≡ None → lookup t (take kept es) ≡ None
   none_kept t [] zero h = refl
   none_kept t [] (suc kept) h = refl
@@ -87,7 +87,8 @@ module _ {K V : Type 0} where
     | inr miss ↦ rw miss (none_kept t es kept (rw miss at h))
   ]
 
-  -- where just the first so many have a value, so many are alive, and so many are left of the first so many
+  -- if exactly the first kept entries have a value, there are kept values in all, and the same number among the first
+  -- ones
   pub living_kept : (es : List (K × Option V)) (kept : ℕ) → kept ≤ length es → ((j : ℕ) (d : K × Option V) → j < kept → is_some (get_or es j d).1 ≡ true) → ((j : ℕ) (d : K × Option V) → kept ≤ j → j < length es → (get_or es j d).1 ≡ None) → living es ≡ kept
   living_kept [] zero within front behind = refl
   living_kept [] (suc kept) within front behind = absurd (omega arith)
@@ -110,7 +111,7 @@ module _ {K V : Type 0} where
       omega (arith, rest, here, cons e (take kept es))
 
 module _ {K V S A H : Type 0} {g : eq.Ghosts K} {h : hash.Ghosts K} {b : builder.Ghosts S H} {w : hasher.Ghosts H} where
-  -- a write through an entry costs no place
+  -- a write through an entry loses no room
   pub places_kept : (m : IndexMap K (Option V) S) (e : Entry K (Option V) S A H g h b w) (o : Option V) → KeepsRoom m (entry_map e) → index_map_len (map_with_value e o) ≡ index_map_len m + (if is_some (entry_value e) then 0 else 1) → places m ≤ places (map_with_value e o)
   unfolding map_with_value entry_value
   places_kept m (Occupied e) o kept len = elim (cases_Bool (is_some (entry_value (Occupied e)))) [

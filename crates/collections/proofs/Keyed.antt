@@ -1,4 +1,4 @@
--- A list by the keys of its elements: what a look-up finds after one was added or taken out, and what it adds up to.
+-- A list whose elements have keys: what a look-up finds after one was added or removed, and the sum over them.
 use Rattle.std.proofs.Common.{ℕ, zero, suc, ◌+◌, ◌<◌, ◌≡◌, ◌≢◌, ◌==◌, List, [], ◌∷◌, ◌++◌, Option, Some, None, AllPairs, if◌then◌else◌, length, get_or, drop, drop-cons, add-one, refl, sym, ap, ◌∙◌, subst, inl, inr, arith}
 use Rattle.std.specs.Prelude.{find, option_map, sum_by}
 use Rattle.std.specs.List.{remove}
@@ -10,11 +10,11 @@ use Rattle.collections.proofs.Listing.{sum_listed}
 use Rattle.collections.proofs.Seen.{sum_seen}
 
 module _ {X Y : Type 0} (key : X → ℕ) (value : X → Y) where
-  -- what stands under the key
+  -- the value of the key
   abbrev pub found : List X → ℕ → Option Y
   found xs n = option_map value (find (λ x. key x == n) xs)
 
-  -- no two have one key
+  -- no two elements have the same key
   abbrev pub HaveOwnKeys : List X → Type 0
   HaveOwnKeys xs = AllPairs (λ x y. key x ≢ key y) xs
 
@@ -24,7 +24,7 @@ module _ {X Y : Type 0} (key : X → ℕ) (value : X → Y) where
   found_later : (x : X) (xs : List X) (n : ℕ) → key x ≢ n → found (x ∷ xs) n ≡ found xs n
   found_later x xs n ne = ap (option_map value) (cond-false (key x == n) (Some x) (find (λ y. key y == n) xs) (ne_eqb (key x) n ne))
 
-  -- who is found stands somewhere
+  -- what is found is in the list
   pub where_found : (xs : List X) (n : ℕ) (y : Y) → found xs n ≡ Some y → (i : ℕ) × (i < length xs) × ((d : X) → (key (get_or xs i d) ≡ n) × (value (get_or xs i d) ≡ y))
   where_found [] n y h = absurd (none-some y h)
   where_found (x ∷ xs) n y h = elim (cases_eq (key x) n) [
@@ -32,7 +32,7 @@ module _ {X Y : Type 0} (key : X → ℕ) (value : X → Y) where
     | inr ne ↦ let it = where_found xs n y (sym (found_later x xs n ne) ∙ h) in (suc it.0, omega (arith, it.1), it.2)
   ]
 
-  -- none has the key
+  -- no element has the key
   pub not_found : (xs : List X) (n : ℕ) → ((j : ℕ) (d : X) → j < length xs → key (get_or xs j d) ≢ n) → found xs n ≡ None
   not_found [] n other = refl
   not_found (x ∷ xs) n other = found_later x xs n (other 0 x (omega arith)) ∙ not_found xs n (λ j d within. other (suc j) d (omega arith))
@@ -43,7 +43,7 @@ module _ {X Y : Type 0} (key : X → ℕ) (value : X → Y) where
   rest_apart : (x : X) (xs : List X) → HaveOwnKeys (x ∷ xs) → HaveOwnKeys xs
   rest_apart x xs apart i j d before within = apart (suc i) (suc j) d (omega arith) (omega arith)
 
-  -- who stands there is found
+  -- what is in the list is found
   pub found_at : (xs : List X) (i : ℕ) (d : X) → HaveOwnKeys xs → i < length xs → found xs (key (get_or xs i d)) ≡ Some (value (get_or xs i d))
   found_at [] i d apart within = absurd (omega arith)
   found_at (x ∷ xs) zero d apart within = found_first x xs (key x) refl
@@ -85,13 +85,13 @@ module _ {X Y : Type 0} (key : X → ℕ) (value : X → Y) where
   pub found-remove : (xs : List X) (i : ℕ) (d : X) → HaveOwnKeys xs → i < length xs → found (remove xs i) ≡ (λ n. if key (get_or xs i d) == n then None else found xs n)
   found-remove xs i d apart within = fun_ext (λ n. remove_at xs i d n apart within)
 
-  -- a search from the front
+  -- a search from the front finds it
   pub found-drop_here : (xs : List X) (i : ℕ) (d : X) (n : ℕ) → i < length xs → key (get_or xs i d) ≡ n → found (drop i xs) n ≡ Some (value (get_or xs i d))
   found-drop_here xs i d n within same = rw (drop-cons xs i d within) (found_first (get_or xs i d) (drop (suc i) xs) n same)
 
   pub found-drop_more : (xs : List X) (i : ℕ) (d : X) (n : ℕ) → i < length xs → key (get_or xs i d) ≢ n → found (drop i xs) n ≡ found (drop (i + 1) xs) n
   found-drop_more xs i d n within ne = rw (add-one, drop-cons xs i d within) (found_later (get_or xs i d) (drop (suc i) xs) n ne)
 
-  -- what they weigh together
+  -- the sum over the list is the sum over what is found
   pub sum_found : (xs : List X) (weight : Y → ℕ) → HaveOwnKeys xs → IsSum (found xs) weight (sum_by (λ x. weight (value x)) xs)
   sum_found xs weight apart = sum_seen (λ n. find (λ x. key x == n) xs) value (λ x. weight (value x)) weight _ (λ k x here. refl) (sum_listed key (λ x. weight (value x)) xs apart)

@@ -1,4 +1,4 @@
--- A child is put under a parent. And what the newest child tells of all.
+-- Adding a child to a parent, and what the newest child says about all children.
 use Rattle.std.proofs.Common.{ℕ, zero, suc, ◌+◌, ◌<◌, ◌≡◌, ◌==◌, if◌then◌else◌, Option, Some, None, refl, sym, ap, ◌∙◌, subst, inl, inr, arith}
 use Rattle.std.proofs.lemmas.Bool.{cases_eq}
 use Rattle.std.proofs.lemmas.Option.{none-some, same_Some}
@@ -6,15 +6,15 @@ use Rattle.collections.specs.declared.children.Kin.{Kin}
 use Rattle.collections.specs.Links.{IsLinked, IsNext, no_kin, with_parent}
 use Rattle.collections.proofs.Written.{if_same, if_other}
 
--- who has a parent is not 0
+-- a number with a parent is not 0
 pub child_real : (parents : ℕ → Option ℕ) (n p : ℕ) → parents 0 ≡ None → parents n ≡ Some p → n ≡ 0 → ⊥
 child_real parents n p none stood e = none-some p (sym none ∙ (ap parents (sym e) ∙ stood))
 
--- one has a parent, and the other has none
+-- a number with a parent differs from one without
 pub apart : (parents : ℕ → Option ℕ) (n m p : ℕ) → parents n ≡ None → parents m ≡ Some p → n ≡ m → ⊥
 apart parents n m p none stood e = none-some p (sym none ∙ (ap parents e ∙ stood))
 
--- with no newest child there is no child: the newer ones would have a lower and lower rank
+-- without a newest child there is no child: otherwise newer and newer siblings would have lower and lower ranks
 module _ (parents : ℕ → Option ℕ) (kin : ℕ → Kin) (rank : ℕ → ℕ) (law : IsLinked parents kin rank) (p : ℕ) (none : (kin p).newest ≡ 0) where
   none_ranked : (most n : ℕ) → rank n < most → parents n ≡ Some p → ⊥
   none_ranked zero n low stood = absurd (omega (arith, low))
@@ -29,7 +29,7 @@ module _ (parents : ℕ → Option ℕ) (kin : ℕ → Kin) (rank : ℕ → ℕ)
   pub childless : (n : ℕ) → parents n ≡ Some p → ⊥
   childless n stood = none_ranked (rank n + 1) n (omega arith) stood
 
--- who has neither a parent nor a child has no links
+-- a number with neither a parent nor a child has no links
 pub bare_kin : (parents : ℕ → Option ℕ) (kin : ℕ → Kin) (rank : ℕ → ℕ) → IsLinked parents kin rank → (n : ℕ) → parents n ≡ None → ((m : ℕ) → parents m ≡ Some n → ⊥) → kin n ≡ no_kin
 bare_kin parents kin rank law n orphan none =
     let newer : (kin n).newer ≡ 0 = elim (cases_eq (kin n).newer 0) [
@@ -46,7 +46,7 @@ bare_kin parents kin rank law n orphan none =
     ] in
     λ i. record { newer = newer i; older = older i; newest = newest i }
 
--- with no parents no links are needed
+-- without parents there need be no links
 pub linked_bare : (parents : ℕ → Option ℕ) (kin : ℕ → Kin) → ((n : ℕ) → parents n ≡ None) → ((n : ℕ) → kin n ≡ no_kin) → IsLinked parents kin (λ n. 0)
 linked_bare parents kin orphans bare = record {
   none = orphans 0;
@@ -57,7 +57,7 @@ linked_bare parents kin orphans bare = record {
   rises = λ n m e some. absurd (some (sym e ∙ ap (λ (k : Kin). k.newer) (bare n)));
 }
 
--- child c comes under p, where the newest child was the first
+-- child c is added to p, whose newest child was f
 module _ (parents : ℕ → Option ℕ) (kin kin' : ℕ → Kin) (rank : ℕ → ℕ) (c p : ℕ) (law : IsLinked parents kin rank) (fresh : parents c ≡ None) (real : c ≡ 0 → ⊥)
     (newer_some : ((kin p).newest ≡ 0 → ⊥) → (m : ℕ) → (kin' m).newer ≡ (if (kin p).newest == m then c else (kin m).newer))
     (newer_none : (kin p).newest ≡ 0 → (m : ℕ) → (kin' m).newer ≡ (kin m).newer)
@@ -84,7 +84,7 @@ module _ (parents : ℕ → Option ℕ) (kin kin' : ℕ → Kin) (rank : ℕ →
   top : (f ≡ 0 → ⊥) → (parents f ≡ Some p) × ((kin f).newer ≡ 0)
   top some = law.newest f p refl some
 
-  -- the child had no sibling
+  -- the child had no siblings
   bare : (kin c).newer ≡ 0
   bare = elim (cases_eq (kin c).newer 0) [
     | inl e ↦ e
@@ -94,7 +94,7 @@ module _ (parents : ℕ → Option ℕ) (kin kin' : ℕ → Kin) (rank : ℕ →
   off_child : (n q : ℕ) → parents n ≡ Some q → c ≡ n → ⊥
   off_child n q stood e = apart parents c n q fresh stood e
 
-  -- who has a newer sibling is not the first
+  -- a number with a newer sibling is not the first
   off_first : (n m : ℕ) → IsNext parents kin n m → f ≡ n → ⊥
   off_first n m next e =
       let some : f ≡ 0 → ⊥ = λ z. child_real parents n next.parent law.none next.older_parent (sym e ∙ z) in
@@ -121,7 +121,7 @@ module _ (parents : ℕ → Option ℕ) (kin kin' : ℕ → Kin) (rank : ℕ →
   rank_other : (m : ℕ) → (c ≡ m → ⊥) → ranked m ≡ rank m + 1
   rank_other m ne = if_other c m 0 (rank m + 1) ne
 
-  -- a newer sibling: of the first it is the child, of others it is as before
+  -- the newer sibling of the first is the child, and that of others is unchanged
   by_newer : (P : ℕ → ℕ → Type 0) → ((f ≡ 0 → ⊥) → P f c) → ((n m : ℕ) → IsNext parents kin n m → rank m < rank n → P n m) → (n m : ℕ) → (kin' n).newer ≡ m → (m ≡ 0 → ⊥) → P n m
   by_newer P new kept n m e some =
       let was : (kin n).newer ≡ m → P n m = λ h. kept n m (law.newer n m h some) (law.rises n m h some) in

@@ -1,4 +1,4 @@
--- The sum of what stands in a list, where no two elements have one key.
+-- The sum over a list in which no two elements have the same key.
 use Rattle.std.proofs.Common.{ℕ, suc, ◌<◌, ◌≡◌, ◌≢◌, ◌==◌, true, false, List, [], ◌∷◌, Option, Some, None, AllPairs, Contains, length, get_or, refl, sym, ap, ◌∙◌, subst, inl, inr, arith}
 use Rattle.std.specs.Prelude.{find, is_some, option_map, sum_by, unwrap_or}
 use Rattle.std.proofs.lemmas.Bool.{cases_eq, cond-false, cond-true, eq-eqb, ne_eqb}
@@ -9,7 +9,7 @@ use Rattle.collections.proofs.Members.{apart_cons, cases_in, first_in, later_in,
 false_true : false ≡ true → ⊥
 false_true e = cc
 
--- equal weights of all members make equal sums
+-- if all members have equal weights, the sums are equal
 sum_same : (f g : ℕ → ℕ) (ks : List ℕ) → ((k : ℕ) → Contains ks k → f k ≡ g k) → sum_by f ks ≡ sum_by g ks
 sum_same f g [] same = refl
 sum_same f g (k ∷ ks) same = let one = same k (first_in k ks) in let more = sum_same f g ks (λ j h. same j (later_in k ks j h)) in omega (arith, one, more, sum_by-cons f k ks, sum_by-cons g k ks)

@@ -1,4 +1,4 @@
--- A look-up has one sum.
+-- A look-up has only one sum.
 use Rattle.std.proofs.Common.{ℕ, ◌+◌, ◌-◌, ◌<◌, ◌≤◌, ◌≡◌, ◌≢◌, List, [], ◌∷◌, Option, AllPairs, Contains, length, get_or, sym, ap, ◌∙◌, subst, inl, inr, arith}
 use Rattle.std.specs.Prelude.{option_map, sum_by, unwrap_or}
 use Rattle.std.specs.List.{remove}
@@ -9,7 +9,7 @@ use Rattle.std.proofs.lemmas.List.Sums.{sum_by-cons, sum_by-remove}
 use Rattle.collections.specs.Sum.{IsSum}
 use Rattle.collections.proofs.Members.{apart_first, apart_tail, first_in, later_in}
 
--- who is in a list is in it without another
+-- what is in a list is in it without another element
 in_remove : (ys : List ℕ) (i x y : ℕ) → i < length ys → get_or ys i x ≡ x → x ≢ y → Contains ys y → Contains (remove ys i) y
 in_remove ys i x y inside e ne (k, within, is) =
     let shorter = length-remove ys i inside in
@@ -23,7 +23,7 @@ in_remove ys i x y inside e ne (k, within, is) =
       ]
     ]
 
--- a list of distinct keys weighs no more than one that has them all
+-- distinct keys weigh no more than a list that contains them all
 sum_within : (f : ℕ → ℕ) (xs ys : List ℕ) → AllPairs (λ j k. j ≢ k) xs → ((y : ℕ) → Contains xs y → Contains ys y) → sum_by f xs ≤ sum_by f ys
 sum_within f [] ys apart within = omega arith
 sum_within f (x ∷ xs) ys apart within =

@@ -1,4 +1,4 @@
--- What is found, seen as something else, weighs as much.
+-- Viewing what is found as something else of the same weight does not change the sum.
 use Rattle.std.proofs.Common.{ℕ, ◌≡◌, Option, Some, None, refl, sym, ap, ◌∙◌}
 use Rattle.std.specs.Prelude.{is_some, option_map, sum_by, unwrap_or}
 use mathlib.Core.Path.{fun_ext}
@@ -13,7 +13,7 @@ module _ {X Y : Type 0} where
   same_weight f u v None same = refl
   same_weight f u v (Some x) same = same x refl
 
-  -- what is found is seen as something else that weighs as much
+  -- what is found is viewed as something else of the same weight
   pub sum_seen : (at : ℕ → Option X) (f : X → Y) (u : X → ℕ) (v : Y → ℕ) (total : ℕ) → ((k : ℕ) (x : X) → at k ≡ Some x → u x ≡ v (f x)) → IsSum at u total → IsSum (λ k. option_map f (at k)) v total
   sum_seen at f u v total same sum = record {
     keys = sum.keys;

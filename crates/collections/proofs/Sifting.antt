@@ -1,4 +1,4 @@
--- A map is sifted: entries with a value go to the front.
+-- Sifting a map: entries with a value are moved to the front.
 use Rattle.std.proofs.Common.{ℕ, ◌+◌, ◌<◌, ◌≤◌, ◌≡◌, Bool, true, List, Option, Some, None, length, get_or, swap, take, is_some, refl, sym, ap, ◌∙◌, subst, inl, inr, arith}
 use Rattle.std.proofs.lemmas.Bool.{cases_eq}
 use Rattle.std.proofs.lemmas.Bool.Decides.{nat_tests}
@@ -14,7 +14,7 @@ none_of None h = refl
 none_of (Some v) h = absurd (h refl)
 
 module _ {K V : Type 0} where
-  -- of the first i entries those with a value stand in front
+  -- of the first i entries, those with a value are in front
   pub record IsSifted (es : List (K × Option V)) (i kept : ℕ) : Type 0 where
     pub before : kept ≤ i
     pub front : (j : ℕ) (d : K × Option V) → j < kept → is_some (get_or es j d).1 ≡ true
@@ -53,7 +53,7 @@ module _ {K V : Type 0} where
         ];
       }
 
--- the loop of a compaction: the map is another order of the one at the start
+-- the loop of a compaction: the map is a permutation of the one at the start
 module _ {K V S : Type 0} (eq : K → K → Bool) where
   pub record IsSiftedMap (start now : IndexMap K (Option V) S) (i kept : ℕ) : Type 0 where
     pub sifted : IsSifted now.entries i kept
@@ -78,7 +78,7 @@ module _ {K V S : Type 0} (eq : K → K → Bool) where
     room = let was = s.room in omega (arith, room.0);
   }
 
-  -- a map that was sifted to its end, and what its first entries are
+  -- a map that was sifted to its end, and its first entries
   module _ (start now new : IndexMap K (Option V) S) (i kept : ℕ) (all : i ≡ index_map_len now) (s : IsSiftedMap start now i kept) (entries : new.entries ≡ take kept now.entries) where
     within : kept ≤ length now.entries
     within = let b = s.sifted.before in omega arith

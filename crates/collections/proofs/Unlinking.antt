@@ -1,4 +1,4 @@
--- A child is taken away from its parent: its neighbours are linked to each other.
+-- A child is removed from its parent: its neighbours are linked to each other.
 use Rattle.std.proofs.Common.{ℕ, ◌<◌, ◌≡◌, Option, Some, None, refl, sym, ap, ◌∙◌, subst, inl, inr, arith}
 use Rattle.std.proofs.lemmas.Bool.{cases_eq}
 use Rattle.std.proofs.lemmas.Option.{none-some, same_Some}
@@ -89,7 +89,7 @@ module _ (parents : ℕ → Option ℕ) (kin kin' : ℕ → Kin) (rank : ℕ →
     older = older_at more;
   }
 
-  -- who is next to another one stays so
+  -- pairs of neighbours without the child remain
   next_kept : (n m : ℕ) → (c ≡ n → ⊥) → (c ≡ m → ⊥) → IsNext parents kin n m → IsNext after kin' n m
   next_kept n m ne ne' next = record {
     parent = next.parent;
@@ -99,7 +99,7 @@ module _ (parents : ℕ → Option ℕ) (kin kin' : ℕ → Kin) (rank : ℕ →
     older = older_off m ne' (λ some e. ne (sym (above some).older ∙ (ap (λ k. (kin k).older) e ∙ next.older))) ∙ next.older;
   }
 
-  -- a newer sibling: of the child's older one it is the child's newer one, of others it is as before
+  -- the newer sibling of the child's older one is now the child's newer one, and that of others is unchanged
   by_newer : (P : ℕ → ℕ → Type 0) → ((a ≡ 0 → ⊥) → (b ≡ 0 → ⊥) → P b a) → ((n m : ℕ) → (c ≡ n → ⊥) → (c ≡ m → ⊥) → IsNext parents kin n m → rank m < rank n → P n m) → (n m : ℕ) → (kin' n).newer ≡ m → (m ≡ 0 → ⊥) → P n m
   by_newer P new kept n m e some =
       let ne : c ≡ n → ⊥ = λ same. some (sym e ∙ (ap (λ k. (kin' k).newer) (sym same) ∙ newer_here)) in

@@ -1,4 +1,4 @@
--- What is found under the numbers of a slab after one key was changed.
+-- What the numbers of a slab have after one key was changed.
 use Rattle.std.proofs.Common.{ℕ, ◌+◌, ◌-◌, ◌≡◌, ◌==◌, if◌then◌else◌, Option, Some, None, refl, sym, ap, ◌∙◌, subst, inl, inr, arith}
 use Rattle.std.proofs.lemmas.Bool.{cases_eq, cond-false, cond-true, eq-eqb, ne_eqb}
 use Rattle.std.proofs.lemmas.Option.{none-some, same_Some}
@@ -16,7 +16,7 @@ pub if_other : {A : Type 0} (n m : ℕ) (x y : A) → (n ≡ m → ⊥) → (if 
 if_other n m x y ne = cond-false (n == m) x y (ne_eqb n m ne)
 
 module _ {T : Type 0} where
-  -- the number of a key
+  -- the number that belongs to a key
   pub linked_of : (s : Slab (Linked T)) (n k : ℕ) → n ≡ k + 1 → linked_at s n ≡ get s k
   linked_of s n k e =
       let less : n - 1 ≡ k = omega arith in
@@ -25,16 +25,16 @@ module _ {T : Type 0} where
   pub linked_none : (s : Slab (Linked T)) (n : ℕ) → n ≡ 0 → linked_at s n ≡ None
   linked_none s n e = if_same n 0 None (get s (n - 1)) e
 
-  -- who has a value stands at a key
+  -- a value is found at a key
   pub value_some : (o : Option (Linked T)) (x : T) → option_map value_of o ≡ Some x → (l : Linked T) × (o ≡ Some l) × (l.value ≡ x)
   value_some None x h = absurd (none-some x h)
   value_some (Some l) x h = (l, refl, same_Some l.value x h)
 
-  -- 0 is no value's number
+  -- 0 has no value
   pub there_real : (s : Slab (Linked T)) (n : ℕ) → IsThere s n → n ≡ 0 → ⊥
   there_real s n it e = none-some it.0 (sym (ap (λ (o : Option (Linked T)). option_map value_of o) (linked_none s n e)) ∙ it.1)
 
-  -- who has a child stands there
+  -- a number with a child has a value
   there_by : (s : Slab (Linked T)) (n : ℕ) (o : Option (Linked T)) → linked_at s n ≡ o → ((kin_or o).newest ≡ 0 → ⊥) → IsThere s n
   there_by s n None e some = absurd (some refl)
   there_by s n (Some l) e some = (l.value, ap (λ (w : Option (Linked T)). option_map value_of w) e)
@@ -42,11 +42,11 @@ module _ {T : Type 0} where
   pub kin_there : (s : Slab (Linked T)) (n : ℕ) → ((kin_at s n).newest ≡ 0 → ⊥) → IsThere s n
   kin_there s n some = there_by s n (linked_at s n) refl some
 
-  -- the same values
+  -- with the same values
   pub there_as : (s s' : Slab (Linked T)) → value_at s' ≡ value_at s → (n : ℕ) → IsThere s n → IsThere s' n
   there_as s s' same n it = (it.0, ap (λ (v : ℕ → Option T). v n) same ∙ it.1)
 
-  -- one has another parent
+  -- after one number got another parent
   pub there_with : (s s' : Slab (Linked T)) → value_at s' ≡ value_at s → (parents : ℕ → Option ℕ) (c : ℕ) (o : Option ℕ) → IsThere s c → ((n p : ℕ) → parents n ≡ Some p → IsThere s n) → (n p : ℕ) → with_parent parents c o n ≡ Some p → IsThere s' n
   there_with s s' same parents c o here there n p stood = there_as s s' same n (elim (cases_eq c n) [
     | inl e ↦ subst (IsThere s) e here
@@ -66,7 +66,7 @@ module _ {T : Type 0} where
       ]
     ]
 
-    -- the same of any view of what stands there
+    -- the same for any view of what a number has
     pub view_updated : {A : Type 0} (f : Option (Linked T) → A) (m : ℕ) → f (linked_at new m) ≡ (if n == m then f o else f (linked_at old m))
     view_updated f m = ap f (linked_updated m) ∙ elim (cases_eq n m) [
       | inl same ↦ ap f (if_same n m o (linked_at old m) same) ∙ sym (if_same n m (f o) (f (linked_at old m)) same)
@@ -89,7 +89,7 @@ module _ {T : Type 0} where
     pub values_kept : option_map value_of o ≡ option_map value_of (get old k) → value_at new ≡ value_at old
     values_kept keeps = fun_ext (view_kept (λ (w : Option (Linked T)). option_map value_of w) keeps)
 
-  -- who stands nowhere else is as many as before: the law speaks of values and links alone
+  -- the law depends only on values and links
   pub lawful_as : (parents parents' : ℕ → Option ℕ) (s s' : Slab (Linked T)) → ((n : ℕ) → parents' n ≡ parents n) → kin_at s' ≡ kin_at s → ((n p : ℕ) → parents n ≡ Some p → IsThere s' n) → IsLawful parents s → IsLawful parents' s'
   lawful_as parents parents' s s' same links there law = record {
     there = λ n p h. there n p (sym (same n) ∙ h);

@@ -1,7 +1,8 @@
-//! Who is a child of whom, with no list that is walked over: siblings are linked to each other, and a parent to its newest child.
+//! The children of each parent, as linked siblings: each child is linked to its siblings, and a parent to its newest
+//! child. So each call is a fixed number of look-ups, and no list is walked over.
 //!
-//! The links stand beside the values in a slab, so that they take memory with them alone. A value stands under a number, which is its
-//! key and one more. Who is whose parent the values tell. So each call is a fixed number of look-ups.
+//! The links are stored beside the values in a slab, so that a value and its links get memory together or not at all. A
+//! value's number is its slab key plus one. The value itself says what its parent is.
 
 ghost use Rattle.std.specs.Prelude.{true, false, ◌≡◌, ◌≢◌, ◌+◌, ℕ, Option, None, Some, if◌then◌else◌, ◌==◌, IfNone, IfSome};
 ghost use Rattle.std.specs.Option.{option_copied};
@@ -11,28 +12,28 @@ ghost use Rattle.collections.specs.Links.{IsLawful, IsThere, no_kin, kin_at, val
 
 use slab::Slab;
 
-/// Stands for no number: numbers begin at 1.
+/// No number: numbers begin at 1.
 const NONE: u64 = 0;
 
-/// What a number is linked to.
+/// The numbers that a number is linked to.
 #[derive(Clone, Copy)]
 pub struct Kin {
-    /// The sibling that was put there next after it.
+    /// The sibling that was added next after it.
     pub newer: u64,
-    /// The sibling that was put there next before it.
+    /// The sibling that was added next before it.
     pub older: u64,
     /// Its newest child.
     pub newest: u64,
 }
 
-/// A value, and what its number is linked to.
+/// A value, and the links of its number.
 #[derive(Drop)]
 pub struct Linked<T> {
     pub value: T,
     pub kin: Kin,
 }
 
-/// The value with no links.
+/// A value without links.
 pub fn unlinked<T>(value: T) -> Linked<T>
     ensures value { result.value ≡ value }
     ensures kin { result.kin ≡ no_kin }
@@ -54,7 +55,7 @@ fn alone() -> Kin
     }
 }
 
-/// The key that the value of that number has.
+/// The slab key of that number.
 pub fn key_of(number: u64) -> Option<usize>
     ensures none { IfNone result (number ≡ 0) }
     ensures some { IfSome result (λ k. number ≡ k + 1) }
@@ -72,7 +73,7 @@ pub fn value_in<T>(nodes: &Slab<Linked<T>>, number: u64) -> Option<&T>
     Some(&linked.value)
 }
 
-/// What the number is linked to.
+/// The links of the number.
 fn kin_in<T>(nodes: &Slab<Linked<T>>, number: u64) -> Kin
     ensures { result ≡ kin_at nodes.now number }
 {
@@ -85,7 +86,7 @@ fn kin_in<T>(nodes: &Slab<Linked<T>>, number: u64) -> Kin
     }
 }
 
-/// Links the number to others, if a value stands there.
+/// Writes the links of the number, if it has a value.
 fn write_kin<T>(nodes: &mut Slab<Linked<T>>, number: u64, kin: Kin)
     ensures wrote { IsThere nodes.old number → (m : ℕ) → kin_at nodes.new m ≡ (if number == m then kin else kin_at nodes.old m) }
     ensures absent { (IsThere nodes.old number → ⊥) → nodes.new ≡ nodes.old }
@@ -102,7 +103,7 @@ fn write_kin<T>(nodes: &mut Slab<Linked<T>>, number: u64, kin: Kin)
     }
 }
 
-/// Links the number to its next newer sibling, if a value stands there.
+/// Sets the next newer sibling of the number, if it has a value.
 fn set_newer<T>(nodes: &mut Slab<Linked<T>>, number: u64, newer: u64)
     ensures newer { IsThere nodes.old number → (m : ℕ) → (kin_at nodes.new m).newer ≡ (if number == m then newer else (kin_at nodes.old m).newer) }
     ensures none { number ≡ 0 → (m : ℕ) → (kin_at nodes.new m).newer ≡ (kin_at nodes.old m).newer }
@@ -121,7 +122,7 @@ fn set_newer<T>(nodes: &mut Slab<Linked<T>>, number: u64, newer: u64)
     write_kin(nodes, number, linked);
 }
 
-/// Links the number to its next older sibling, if a value stands there.
+/// Sets the next older sibling of the number, if it has a value.
 fn set_older<T>(nodes: &mut Slab<Linked<T>>, number: u64, older: u64)
     ensures older { IsThere nodes.old number → (m : ℕ) → (kin_at nodes.new m).older ≡ (if number == m then older else (kin_at nodes.old m).older) }
     ensures none { number ≡ 0 → (m : ℕ) → (kin_at nodes.new m).older ≡ (kin_at nodes.old m).older }
@@ -140,7 +141,7 @@ fn set_older<T>(nodes: &mut Slab<Linked<T>>, number: u64, older: u64)
     write_kin(nodes, number, linked);
 }
 
-/// Links the number to its newest child, if a value stands there.
+/// Sets the newest child of the number, if it has a value.
 fn set_newest<T>(nodes: &mut Slab<Linked<T>>, number: u64, newest: u64)
     ensures newest { IsThere nodes.old number → (m : ℕ) → (kin_at nodes.new m).newest ≡ (if number == m then newest else (kin_at nodes.old m).newest) }
     ensures newer { (m : ℕ) → (kin_at nodes.new m).newer ≡ (kin_at nodes.old m).newer }
@@ -158,7 +159,7 @@ fn set_newest<T>(nodes: &mut Slab<Linked<T>>, number: u64, newest: u64)
     write_kin(nodes, number, linked);
 }
 
-/// Where the child with these links was the newest one, the next older one is that now.
+/// If the child with these links was the newest one, makes the next older one the newest.
 fn hand_on<T>(nodes: &mut Slab<Linked<T>>, parent: u64, kin: Kin)
     ensures top { kin.newer ≡ 0 → IsThere nodes.old parent → (m : ℕ) → (kin_at nodes.new m).newest ≡ (if parent == m then kin.older else (kin_at nodes.old m).newest) }
     ensures newest { kin.newer ≢ 0 → (m : ℕ) → (kin_at nodes.new m).newest ≡ (kin_at nodes.old m).newest }
@@ -193,7 +194,7 @@ pub fn newest_child<T>(nodes: &Slab<Linked<T>>, parent: u64) -> Option<u64>
     Some(newest)
 }
 
-/// Puts a child under a parent, as its newest one. It takes no memory.
+/// Adds a child to a parent, as its newest one. It does not allocate.
 pub fn add_child<T>(nodes: &mut Slab<Linked<T>>, child: u64, parent: u64)
     requires there { IsThere nodes.old child }
     requires above { IsThere nodes.old parent }
@@ -208,7 +209,7 @@ pub fn add_child<T>(nodes: &mut Slab<Linked<T>>, child: u64, parent: u64)
     set_newest(nodes, parent, child);
 }
 
-/// Takes a child away from its parent. It takes no memory.
+/// Removes a child from its parent. It does not allocate.
 pub fn remove_child<T>(nodes: &mut Slab<Linked<T>>, child: u64, parent: u64)
     requires there { IsThere nodes.old child }
     ensures lawful { (parents : ℕ → Option ℕ) → IsLawful parents nodes.old → parents child ≡ Some parent → IsLawful (with_parent parents child None) nodes.new }

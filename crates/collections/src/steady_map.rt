@@ -1,8 +1,9 @@
-//! A hashed map that loses no room: what a removal frees, a later insert takes again, with no memory and for ever.
+//! A hash map that loses no room: a later insertion uses the room that a removal frees, without allocating, however
+//! often.
 //!
-//! The kit's index map does not promise this of a removal and an insert. So a key that is taken out keeps its entry, which
-//! stands for nothing, and once all places are used up the map is compacted. As long as twice the keys with a value, and
-//! those that are still to come, are at most the places, that costs a constant for each insert.
+//! The kit's index map does not promise this. So a key that is removed keeps its entry, without a value, and once all
+//! room is used up the map is compacted. As long as the keys with a value, and those that may still come, take at most
+//! half of the room, this costs a constant per insertion.
 
 ghost use Rattle.std.specs.Prelude.{true, false, ◌≡◌, ◌≢◌, ◌<◌, ◌≤◌, ◌+◌, ◌*◌, ℕ, None, Some, IsOk, IsSome, OnOk, is_some, if◌then◌else◌, slice_index_or, ◌^◌, IfNone, IfSome, Option};
 ghost use Rattle.indexmap.specs.IndexMap.{get, get_by, index_map_len, spare, IsUnchanged};
@@ -12,7 +13,7 @@ use indexmap::{Equivalent, IndexMap};
 use std::alloc::AllocError;
 use std::hash::{BuildHasher, Hash};
 
-/// The value under the key.
+/// The value of the key.
 pub fn value_of<K: Eq + Hash, V: Copy, S: BuildHasher>(
     map: &IndexMap<K, Option<V>, S>,
     key: &K,
@@ -25,7 +26,7 @@ pub fn value_of<K: Eq + Hash, V: Copy, S: BuildHasher>(
     }
 }
 
-/// The value under the key that the query stands for.
+/// The value of the key that is equivalent to the query.
 pub fn value_by<K: Eq + Hash, V: Copy, S: BuildHasher, Q: Equivalent<K>>(
     map: &IndexMap<K, Option<V>, S>,
     query: Q,
@@ -38,7 +39,7 @@ pub fn value_by<K: Eq + Hash, V: Copy, S: BuildHasher, Q: Equivalent<K>>(
     }
 }
 
-/// Writes the value of a key that has an entry. Whether it has one is the result.
+/// Writes the value of a key that has an entry. The result says whether it has one.
 fn overwrite<K: Eq + Hash, V: Copy, S: BuildHasher>(
     map: &mut IndexMap<K, Option<V>, S>,
     key: &K,
@@ -60,7 +61,7 @@ fn overwrite<K: Eq + Hash, V: Copy, S: BuildHasher>(
     }
 }
 
-/// Writes the value of a key that has one. It takes no memory.
+/// Writes the value of a key that has one. It does not allocate.
 pub fn set<K: Eq + Hash, V: Copy, S: BuildHasher>(
     map: &mut IndexMap<K, Option<V>, S>,
     key: &K,
@@ -74,7 +75,7 @@ pub fn set<K: Eq + Hash, V: Copy, S: BuildHasher>(
     overwrite(map, key, Some(value));
 }
 
-/// Takes the key out, and says what stood under it. It takes no memory, and costs no place: the key keeps its entry.
+/// Removes the key and returns its value. It neither allocates nor loses room: the key keeps its entry.
 pub fn take<K: Eq + Hash, V: Copy, S: BuildHasher>(
     map: &mut IndexMap<K, Option<V>, S>,
     key: &K,
@@ -95,7 +96,7 @@ pub fn take<K: Eq + Hash, V: Copy, S: BuildHasher>(
     }
 }
 
-/// Takes the key out. It takes no memory, and costs no place.
+/// Removes the key. It neither allocates nor loses room.
 pub fn take_out<K: Eq + Hash, V: Copy, S: BuildHasher>(map: &mut IndexMap<K, Option<V>, S>, key: &K)
     ensures taken { (q : K) → found K.eq map.new q ≡ (if K.eq key.now q then None else found K.eq map.old q) }
     ensures live { live map.new + weight (found K.eq map.old key.now) ≡ live map.old }
@@ -104,7 +105,7 @@ pub fn take_out<K: Eq + Hash, V: Copy, S: BuildHasher>(map: &mut IndexMap<K, Opt
     take(map, key);
 }
 
-/// Puts a value under a key that was taken out and has kept its entry. It takes no memory.
+/// Puts a value under a key that was removed and still has its entry. It does not allocate.
 pub fn put_back<K: Eq + Hash, V: Copy, S: BuildHasher>(
     map: &mut IndexMap<K, Option<V>, S>,
     key: &K,
@@ -129,7 +130,7 @@ fn lives<K: Eq + Hash, V: Copy, S: BuildHasher>(
     map[index].is_some()
 }
 
-/// Takes out the entries that stand for nothing, and makes their places free. It takes no memory.
+/// Drops the entries without a value, so that their room is free again. It does not allocate.
 fn compact<K: Eq + Hash + Drop, V: Copy + Drop, S: BuildHasher>(map: &mut IndexMap<K, Option<V>, S>)
     requires sparse { 2 * live map.old ≤ index_map_len map.old }
     ensures same { (q : K) → found K.eq map.new q ≡ found K.eq map.old q }
@@ -148,7 +149,7 @@ fn compact<K: Eq + Hash + Drop, V: Copy + Drop, S: BuildHasher>(map: &mut IndexM
     map.truncate(kept);
 }
 
-/// Puts a value under the key, and says what stood there. It takes no memory, and looks the key up once.
+/// Puts a value under the key and returns the value before it. It does not allocate, and looks the key up once.
 pub fn replace<K: Eq + Hash + Drop, V: Copy + Drop, S: BuildHasher>(
     map: &mut IndexMap<K, Option<V>, S>,
     key: K,
@@ -166,7 +167,7 @@ pub fn replace<K: Eq + Hash + Drop, V: Copy + Drop, S: BuildHasher>(
     write(map, key, value)
 }
 
-/// Puts a value under a key that has none. It takes no memory.
+/// Puts a value under a key that has none. It does not allocate.
 pub fn put<K: Eq + Hash + Drop, V: Copy + Drop, S: BuildHasher>(
     map: &mut IndexMap<K, Option<V>, S>,
     key: K,
@@ -181,7 +182,7 @@ pub fn put<K: Eq + Hash + Drop, V: Copy + Drop, S: BuildHasher>(
     replace(map, key, value);
 }
 
-/// Puts a value under the key, and says what stood there, where a place is free.
+/// Puts a value under the key, if there is room for an entry, and returns the value before it.
 fn write<K: Eq + Hash + Drop, V: Copy + Drop, S: BuildHasher>(
     map: &mut IndexMap<K, Option<V>, S>,
     key: K,
@@ -204,7 +205,7 @@ fn write<K: Eq + Hash + Drop, V: Copy + Drop, S: BuildHasher>(
     }
 }
 
-/// Makes places for so many keys more, where so many have a value. Without memory nothing changes.
+/// Makes room for `more` keys, where `count` keys have a value. If memory is refused, nothing changes.
 pub fn make_places<K: Eq + Hash, V: Copy, S: BuildHasher>(
     map: &mut IndexMap<K, Option<V>, S>,
     count: usize,

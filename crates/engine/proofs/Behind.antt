@@ -1,4 +1,4 @@
--- A receive into a part of a room.
+-- A receive into a part of a buffer.
 use Rattle.std.proofs.Common.{◌≡◌, ℕ, ◌+◌, ◌≤◌, ◌-◌, List, ◌++◌, length, take, drop, refl, ap, ◌∙◌, length-append, arith}
 use Rattle.std.proofs.lemmas.List.{take_at, drop_at, length-take-le, take-append-le}
 use borrow.Rule.Slice.PartMut.{put_mid, post_of}
@@ -6,7 +6,7 @@ use Rattle.engine.specs.Links.{Heard, Piece, IsWithin, heard}
 use Rattle.engine.specs.declared.links.Received.{Received}
 use Rattle.engine.specs.declared.links.Received.TheVariants as received
 
--- a receive into what is behind the front leaves the front, and brings what stands behind it then
+-- a receive into what comes after the front does not change the front
 module _ (room new : List ℕ) (from k : ℕ) (inside : from ≤ length room) where
   pub front_left : take from (put_mid from k room new) ≡ take from room
   front_left = take_at (take from room) (new ++ post_of from k room) from (length-take-le from room inside)

@@ -1,4 +1,4 @@
--- What came of one frame, by its class.
+-- The results of one frame, by its class.
 use Rattle.std.proofs.Common.{ℕ, ◌≡◌, pos, Bool, true, false, List, [], Option, Some, None, inl, inr, refl, sym, ap, subst, ◌∙◌}
 use Rattle.errno.specs.declared.TheConstants.{EIO, ENOMEM}
 use Rattle.wire.specs.Faults.{fault_errno}
@@ -18,7 +18,7 @@ use Rattle.engine.specs.Serving.{Behaviour, Environment, around}
 use Rattle.engine.specs.Walks.{HandlesInitFrame, IsHandled, HandlesDestroy, Rules, Stand, RepliesInit, RepliesInitBy, WorkedOff, stand}
 use Rattle.engine.proofs.Turns.{answering, silent}
 
--- a reply of a header alone is written as its error
+-- a reply that is only a header is written as its error
 pub confirmed : (unique : ℕ) → reply_bytes (refusal unique (pos 0)) ≡ reply_bytes (done_reply unique)
 unfolding reply_bytes body_bytes le
 confirmed unique = refl

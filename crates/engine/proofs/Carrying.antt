@@ -1,4 +1,4 @@
--- What each step of a table keeps, where it begins with no reserved name, a whole session keeps.
+-- A property that each step of a table keeps, if it begins with no reserved name, is kept by a whole session.
 use Rattle.std.proofs.Common.{ℕ, ℤ, ◌≡◌, ◌⊎◌, Bool, true, false, List, [], ◌∷◌, Option, Some, None, ap, sym, subst, inl, inr}
 use Rattle.table_files.specs.declared.data.OpenFile.{OpenFile}
 use Rattle.table_requests.specs.declared.data.Want.{Want}
@@ -27,7 +27,7 @@ use Rattle.engine.specs.Reference.{Answers, Asks, At, AtBegin, AtListing, AtRepl
 use Rattle.engine.specs.Tables.{Table}
 use Rattle.engine.proofs.Unreserved.{IsPlainIntent, intent_plain, page_plain}
 
--- each call of the one table is one of the other, and keeps what is said of where the table stands
+-- each call of the first table is one of the second, and keeps the property of its state
 pub record Carries {W : Type 0} (table other : Table W) (P : W → Type 0) : Type 0 where
   pub begins : (old new : W) (unique : ℕ) (want : Want) (told : Begin) → IsUnreserved want → P old → table.begins old unique want told new → other.begins old unique want told new × P new
   pub finishes : (old new : W) (id : ℕ) (outcome : Outcome) (answer : Answer) → P old → table.finishes old id outcome answer new → other.finishes old id outcome answer new × P new

@@ -1,4 +1,4 @@
--- What the code of a session has done from its first byte to its end is a whole session.
+-- What the code of a session has done from the first byte to the end is a whole session.
 use Rattle.std.proofs.lemmas.Option.{none-some, same_Some}
 use Rattle.std.proofs.Common.{◌≡◌, ◌≢◌, Bool, true, false, if◌then◌else◌, ℕ, ◌≤◌, ◌-◌, suc, zero, List, [], ◌∷◌, ◌++◌, length, take, drop, refl, sym, subst, ap, ◌∙◌, append_assoc, append-nil, arith, inl, inr, ◌⊎◌, Option, Some, None}
 use Rattle.std.specs.Prelude.{option_to_list}
@@ -93,7 +93,7 @@ each_append : (fs gs : List (List ℕ)) → AllByRecursion IsFramed fs → AllBy
 each_append [] gs a b = b
 each_append (f ∷ fs) gs a b = (a.0, each_append fs gs a.1 b)
 
--- ---- the end of a session that a frame did not end for want of memory
+-- ---- the end of a session that a frame did not end for lack of memory
 
 lacks_none : (end : SessionEnd) (steps : List Step) → end ≢ ends.Memory → LacksMemory end steps
 lacks_none (ends.Closed len) steps other = tt
@@ -108,7 +108,7 @@ ends_otherwise true destroyed e = cc
 ends_otherwise false true e = cc
 ends_otherwise false false e = none-some ends.Memory e
 
--- ---- steps, told apart
+-- ---- steps, separated
 
 passes_on : {L : Type 0} (receives : L → Heard → L → Type 0) (sends : L → List ℕ → Sent → L → Type 0) (a b c : L) (offer : Option Offer) (es : List Event) → Passes sends a offer b → Chain (Happens receives sends) b es c → Chain (Happens receives sends) a (sent_of offer ++ es) c
 passes_on {L = L} receives sends a b c None es p chain = subst (λ (l : L). Chain (Happens receives sends) l es c) p chain
@@ -120,7 +120,7 @@ goes_last Ended = refl
 goes_last Broke = refl
 
 module _ {W L C D : Type 0} (table : Table W) (settings : Settings) (over : Traffic L) (does : Behaviour C D) where
-  -- what steps from a place tell of the link, the directory, the table and the bytes
+  -- what steps say about the link, the directory, the table and the bytes
   record Tells (old : Side W L C D) (steps : List Step) (new : Environment (At W) L C D) (kept : List ℕ) (stops : List Stop) : Type 0 where
     pub passes : Chain (Happens over.receives over.sends) old.link (events_of steps) new.link
     pub draws : Draws does old.served (made_of (turns_of steps)) (folders_of (turns_of steps)) new.served
@@ -183,7 +183,7 @@ module _ {W L C D : Type 0} (table : Table W) (settings : Settings) (over : Traf
 
   -- ---- a whole session
 
-  -- no frame ends a session for want of memory
+  -- no frame ends a session for lack of memory
   never_short : (turns : List Turn) (old new : At W) → old.end ≢ Some ends.Memory → Chain (IsTurn table settings) old turns new → new.end ≢ Some ends.Memory
   never_short [] old new other chain = λ e. other (sym (ap (λ (a : At W). a.end) chain) ∙ e)
   never_short (turn ∷ turns) old new other chain = never_short turns chain.0 new (λ e. ends_otherwise (was_broken (sent_in turn.offer)) turn.destroyed (sym chain.1.end ∙ e)) chain.2
@@ -223,14 +223,14 @@ module _ {W L C D : Type 0} (table : Table W) (settings : Settings) (over : Traf
         memory = lacks;
       }
 
-  -- the table is fresh, and no version is agreed on
+  -- the table is new, and no version is agreed on
   abbrev pub beginning : Environment W L C D → Side W L C D
   beginning old = side (around old.link old.served (stand old.at false)) []
 
   -- ---- the ends of a session
 
   module _ (old : Environment W L C D) (mid : Environment (Stand W) L C D) (kept : List ℕ) (fresh : table.is_idle old.at) (partial : IsPartial kept) (walks : Walks table settings over does (beginning old) (side mid kept)) where
-    -- hearing ends
+    -- receiving ends the session
     by_heard : (heard : Heard) (link : L) (now : List ℕ) (stop : Option Stop) (dropped : List (List ℕ)) (rest : List ℕ) (end : SessionEnd) → over.receives mid.link heard link → now ≡ kept ++ bytes_of heard → stop_in heard ++ [] ≡ option_to_list stop → Splits now dropped rest → Closes None end stop dropped rest → LacksMemory end (walks.steps ++ Hears heard ∷ [])
         → IsClientRun table settings over does old (around link mid.served mid.at.world) end
     by_heard heard link now stop dropped rest end r is stops splits closes lacks =

@@ -1,4 +1,4 @@
--- How a request is concluded.
+-- How requests are concluded.
 use Rattle.std.proofs.Common.{ℕ, ◌≡◌, Bool, true, false, List, [], ◌∷◌, ◌++◌, Option, Some, None, Ok, Err, if◌then◌else◌, refl, sym, ap, subst}
 use Rattle.errno.specs.declared.TheConstants.{EIO, ENOMEM}
 use Rattle.backing.specs.declared.call.Child.{Child}
@@ -57,7 +57,7 @@ plain node (findings.Replaced candidate) h = (refl, refl)
 plain node (findings.Unmoved candidate errno) h = (refl, refl)
 plain node findings.Kept h = (refl, refl)
 
--- names that are lawless, and names that are not
+-- names that are not lawful, and names that are
 pub lawless_end : (children : List Child) → are_lawful children ≡ false → end_of (findings.Error EIO) ≡ listed_end children
 lawless_end children lawless = ap (λ (b : Bool). if b then listing_found children else record { outcome = outcomes.Failed; findings = findings.Error EIO }) (sym lawless)
 
@@ -110,12 +110,12 @@ played settings (Some AtScript) meant said operation ticket made end is f = absu
 played settings (Some AtListing) meant said operation ticket made end is f = absurd is
 played settings (Some AtReply) meant said operation ticket made end is f = f
 
--- a reply that found no memory
+-- a reply for which memory was refused
 pub starved_untaken : {L : Type 0} (sends : L → List ℕ → Sent → L → Type 0) (meant : Reply) (old new : L) (sent : Sent) → TakesMemory meant.body → sends old (reply_bytes (refusal meant.unique ENOMEM)) sent new → RepliesTaken sends meant old sent false new
 starved_untaken sends meant old new sent takes s = record { told = record { refused = Some AtReply; said = Failed ENOMEM; said_is = (takes, refl); offer = s }; taken_is = refl }
 
 module _ {W L : Type 0} (rules : Rules W L) where
-  -- the script has made these calls and come to that finding
+  -- the script has made these calls and has this result
   pub concluded : (b : Begun) (made : List Made) (finding : ScriptResult) (outcome : Outcome) (put : Option ℕ) (first last : List FolderCall) (meant : ReplyBody) (answer : Answer) (old new : LinkAndTable L W) (finished : W) (sent : Sent) (taken : Bool)
       → Follows (plan_of rules.settings b.q.operation b.ticket) made (record { outcome = outcome; findings = finding })
       → rules.table.finishes old.world b.ticket.id outcome answer finished → meant ≡ reply_to rules.settings b.q.node b.page finding put answer
@@ -161,7 +161,7 @@ module _ {W L : Type 0} (rules : Rules W L) where
   concluded_open b made children folder put last meant answer old new finished sent taken is_made follows finishes is gives r settles =
       concluded b made (findings.Listed children) Done put (Put folder put ∷ []) last meant answer old new finished sent taken follows finishes is (folder, is_made, refl) gives r settles
 
-  -- a listing that found no memory
+  -- a listing for which memory was refused
   pub concluded_starved : (b : Begun) (made : List Made) (children : List Child) (answer : Answer) (old new : LinkAndTable L W) (finished : W) (sent : Sent)
       → IsMade b.q.node children (Err Memory) → Follows (plan_of rules.settings b.q.operation b.ticket) made (listing_found children) → rules.table.finishes old.world b.ticket.id Done answer finished → rules.sends old.link (reply_bytes (refusal b.q.unique ENOMEM)) sent new.link → rules.table.settles finished answer None false new.world
       → Concludes rules b made (listing_found children) [] old sent new
@@ -192,7 +192,7 @@ module _ {W L : Type 0} (rules : Rules W L) where
   concluded_entries b made founds meant answer old new finished sent taken follows finishes is r settles =
       concluded b made (findings.Looked founds) (entries_found founds).outcome None [] [] meant answer old new finished sent taken follows finishes is (refl, refl) (none_given_up taken) r settles
 
-  -- a script that found no memory
+  -- a script for which memory was refused
   pub concluded_short : (b : Begun) (answer : Answer) (old new : LinkAndTable L W) (finished : W) (sent : Sent)
       → LooksAtEach b.q.operation → rules.table.finishes old.world b.ticket.id no_memory.outcome answer finished → rules.sends old.link (reply_bytes (refusal b.q.unique ENOMEM)) sent new.link → rules.table.settles finished answer None false new.world
       → Concludes rules b [] no_memory [] old sent new

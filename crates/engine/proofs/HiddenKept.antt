@@ -1,4 +1,4 @@
--- A session that begins where each node with a hidden mark stands under a reserved name goes on so.
+-- If at the beginning of a session each node with a hidden mark is at a reserved name, this remains so.
 use Rattle.std.proofs.Common.{ℕ, List, Option, Some, None, sym, subst}
 use Rattle.paths.specs.Prefixes.{Names}
 use Rattle.table_hiding.specs.Hiding.{KeepsHidden}
@@ -73,7 +73,7 @@ module _ {L C D : Type 0} (settings : Settings) (over : Traffic L) (does : Behav
       } in
       (run, s.1)
 
-  -- the whole session, and where it ends
+  -- the whole session, and its end
   pub run_keeps : (old new : Environment World L C D) (end : SessionEnd) → IsLawfulWorld old.at → KeepsHidden old.at → IsSessionRun worlds settings over does old new end → IsSessionRun hiding settings over does old new end
   run_keeps old new end lawful keeps it =
       let client = client_keeps old (around new.link it.left new.at) end (lawful, keeps) it.client in

@@ -8,7 +8,7 @@ use Rattle.engine.specs.declared.bytes.ReplyBytes.{ReplyBytes}
 use Rattle.engine.specs.declared.links.Sent.{Sent}
 use Rattle.engine.specs.declared.links.Sent.TheVariants.{Taken, Untaken, Broken}
 
--- the link stands
+-- the link is not broken
 abbrev pub Stands : Sent → Type 0
 Stands Taken = Unit {0}
 Stands Untaken = Unit {0}
@@ -25,13 +25,13 @@ broken_of Untaken e = cc
 broken_of Broken e = refl
 
 module _ {L : Type 0} (sends : L → List ℕ → Sent → L → Type 0) where
-  -- one alone
+  -- only one
   pub begins_one : (old new : L) (frame : List ℕ) (sent : Sent) → sends old frame sent new → Stands sent → BeginsEach sends old (frame ∷ []) (sent ∷ []) new
   begins_one old new frame Taken s stands = (new, s, refl)
   begins_one old new frame Untaken s stands = (new, s, refl)
   begins_one old new frame Broken s stands = absurd stands
 
-  -- some, and then others
+  -- some, and then more
   pub begins_on : (old mid new : L) (frames more : List (List ℕ)) (sents others : List Sent) → BeginsEach sends old frames sents mid → BeginsEach sends mid more others new
       → BeginsEach sends old (frames ++ more) (sents ++ others) new
   begins_on old mid new [] more [] others b on = subst (λ (l : L). BeginsEach sends l more others new) b on
@@ -41,7 +41,7 @@ module _ {L : Type 0} (sends : L → List ℕ → Sent → L → Type 0) where
   begins_on old mid new (frame ∷ frames) more (Untaken ∷ sents) others b on = (b.0, b.1, begins_on b.0 mid new frames more sents others b.2 on)
   begins_on old mid new (frame ∷ frames) more (Broken ∷ sents) others b on = absurd b
 
-  -- some, and then all others
+  -- some, and then all the rest
   pub begins_then : (old mid new : L) (frames more : List (List ℕ)) (sents others : List Sent) → BeginsEach sends old frames sents mid → SendsEach sends mid more others new
       → SendsEach sends old (frames ++ more) (sents ++ others) new
   begins_then old mid new [] more [] others b on = subst (λ (l : L). SendsEach sends l more others new) b on

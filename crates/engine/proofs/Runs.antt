@@ -1,4 +1,4 @@
--- Runs go on by one step, and by another run.
+-- Extending runs by one step, and by another run.
 use Rattle.std.proofs.lemmas.Option.{none-some}
 use Rattle.std.proofs.Common.{◌≡◌, Some, None, List, [], ◌∷◌, ◌++◌, refl, sym, subst, append_assoc, append-nil}
 use Rattle.backing.specs.Calls.{Asked}
@@ -23,7 +23,7 @@ draws_on does old mid new made more folders rest a b = record {
   keeps = chain_append does.keeps old.dirs mid.dirs new.dirs folders rest a.keeps b.keeps;
 }
 
--- a plan that asks goes on after the answer
+-- a plan that asks for a call goes on after the answer
 asks_on : (now : Plan) (call : Asked) (answer : Answer) → next_of now ≡ Some call → (rest : List Made) (end : End) → Follows (after now answer) rest end → Follows now (record { call = call; answer = answer } ∷ rest) end
 asks_on (Ask asks next) call answer e rest end f = (cc, f)
 asks_on (Over over) call answer e rest end f = absurd (none-some call e)
@@ -41,7 +41,7 @@ played_on gives first now a b c call answer p e step =
       onwards = λ rest end f. subst (λ ms. Follows first ms end) (sym (append_assoc p.made (m ∷ []) rest)) (p.onwards (m ∷ rest) end (asks_on now call answer e rest end f));
     }
 
--- a script that asks no more has ended with what it has found
+-- a script that asks for no more calls has ended with its result
 pub played : {C : Type 0} (gives : C → Asked → Answer → C → Type 0) (first now : Plan) (a b : C) (found : End) → Playing gives a first b now → next_of now ≡ None → ((end : End) → now ≡ Over end → found ≡ end) → Played gives a first b found
 played gives first now a b found p e finds =
     let over = is_over now e in

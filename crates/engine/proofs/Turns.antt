@@ -1,4 +1,4 @@
--- What came of one frame.
+-- The results of one frame.
 use Rattle.std.proofs.Common.{ℕ, ℤ, ◌≡◌, ◌≢◌, true, false, List, [], ◌++◌, Option, Some, None, IfSome, IfNone, inl, inr, refl, sym, ap, ◌∙◌, subst, append_assoc, append-nil}
 use Rattle.errno.specs.declared.TheConstants.{ENOMEM}
 use Rattle.table_files.specs.declared.data.OpenFile.{OpenFile}
@@ -42,15 +42,15 @@ acting frame refused made folders unique said sent = record {
   destroyed = false;
 }
 
--- the same that makes no call of the open folders
+-- the same without calls of the open folders
 abbrev pub answering : List ℕ → Option Place → List Made → ℕ → ReplyBody → Sent → Turn
 answering frame refused made unique said sent = acting frame refused made [] unique said sent
 
--- a frame without one
+-- a frame without a reply
 abbrev pub silent : List ℕ → Turn
 silent frame = record { frame = frame; refused = None; made = []; folders = []; offer = None; destroyed = false }
 
--- the same from the same link
+-- the same, starting from the same link
 pub sent_from : {L : Type 0} (sends : L → List ℕ → Sent → L → Type 0) (old mid new : L) (bytes : List ℕ) (sent : Sent) → mid ≡ old → sends mid bytes sent new → sends old bytes sent new
 sent_from {L = L} sends old mid new bytes sent same s = subst (λ (l : L). sends l bytes sent new) same s
 
@@ -60,7 +60,7 @@ answered sends meant old new sent s = record { refused = None; said = meant.body
 pub starved : {L : Type 0} (sends : L → List ℕ → Sent → L → Type 0) (meant : Reply) (old new : L) (sent : Sent) → TakesMemory meant.body → sends old (reply_bytes (refusal meant.unique ENOMEM)) sent new → IsAnswered sends meant old sent new
 starved sends meant old new sent takes s = record { refused = Some AtReply; said = Failed ENOMEM; said_is = (takes, refl); offer = s }
 
--- what is said tells that memory was not refused before
+-- a reply that was sent shows that memory was not refused before
 said_later : (refused : Option Place) (meant said : ReplyBody) → IsSaid refused meant said → refused ≢ Some AtBegin
 said_later refused meant said is none = subst (λ (place : Option Place). IsSaid place meant said) none is
 
@@ -68,7 +68,7 @@ told_later : (refused : Option Place) (meant said : ReplyBody) → IsTold refuse
 told_later refused meant said is none = subst (λ (place : Option Place). IsTold place meant said) none is
 
 module _ {W L C D : Type 0} (rules : Rules W L) (does : Behaviour C D) where
-  -- a frame that is no request
+  -- a frame that is not a request
   pub fault_answered : (frame : List ℕ) (fault : WireFault) (old : Environment W L C D) (link : L) (result : Option Sent) → IsFirstFault frame fault
       → IfSome result (λ sent. (is_unanswered (opcode_in frame) ≡ false) × rules.sends old.link (reply_bytes (refusal (unique_in frame) (fault_errno fault))) sent link)
       → IfNone result ((is_unanswered (opcode_in frame) ≡ true) × (link ≡ old.link))
@@ -126,7 +126,7 @@ module _ {W L C D : Type 0} (rules : Rules W L) (does : Behaviour C D) where
         passes = a.offer;
       }
 
-  -- lookups are given back
+  -- lookups are forgotten
   pub forgot : (frame : List ℕ) (q : Request) (lookups : List ForgetOne) (old : Environment W L C D) (at : W) → IsRequest frame q → intents.Forget lookups ≡ intent rules.settings q → ForgetsAll rules.table old.at lookups at
       → WorkedOff rules does frame old None (around old.link old.served at)
   forgot frame q lookups old at is i f = record {
@@ -139,7 +139,7 @@ module _ {W L C D : Type 0} (rules : Rules W L) (does : Behaviour C D) where
     passes = refl;
   }
 
-  -- entries of an open folder are told by a request that begins
+  -- entries of an open folder are returned by a request that begins
   begun_with : (frame : List ℕ) (q : Request) (fh : ℕ) (usage : FolderUse) (old new : Environment W L C D) (sent : Sent) → IsRequest frame q → intents.Folder fh usage ≡ intent rules.settings q
       → TellsOut rules does q fh usage old sent new
       → WorkedOff rules does frame old (Some sent) new
@@ -188,7 +188,7 @@ module _ {W L C D : Type 0} (rules : Rules W L) (does : Behaviour C D) where
         passes = u.told.offer;
       }
 
-  -- a request that is passed over
+  -- a request that is ignored
   pub passed_over : (frame : List ℕ) (q : Request) (old : Environment W L C D) → IsRequest frame q → intents.Nothing ≡ intent rules.settings q → WorkedOff rules does frame old None old
   passed_over frame q old is i = record {
     turn = silent frame;
@@ -200,7 +200,7 @@ module _ {W L C D : Type 0} (rules : Rules W L) (does : Behaviour C D) where
     passes = refl;
   }
 
-  -- a request that is begun
+  -- a request that begins
   pub carried : (frame : List ℕ) (q : Request) (want : Want) (old new : Environment W L C D) (sent : Sent) → IsRequest frame q → intents.Begin want ≡ intent rules.settings q
       → RunsOut rules does (attempt q want [] no_page) old sent new
       → WorkedOff rules does frame old (Some sent) new
@@ -290,7 +290,7 @@ module _ {W L C D : Type 0} (rules : Rules W L) (does : Behaviour C D) where
     owned = said_later w.refused (Failed errno) w.said w.said_is;
   }
 
-  -- there is no memory to begin
+  -- memory is refused before it begins
   pub page_unbegun : (a : Attempt) (old : Environment W L C D) (link : L) (sent : Sent) → HasNames a.want → rules.sends old.link (reply_bytes (refusal a.q.unique ENOMEM)) sent link
       → RunsOut rules does a old sent (around link old.served old.at)
   page_unbegun a old link sent named s = record {

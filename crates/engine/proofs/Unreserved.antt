@@ -1,4 +1,4 @@
--- A request begins with a want in which no name is reserved: one that has such a name is refused before.
+-- A request begins with a want without reserved names: one with such a name is refused before.
 use Rattle.std.proofs.Common.{ℕ, ◌==◌, ◌<◌, ◌≡◌, Bool, true, false, List, [], ◌∷◌, ◌++◌, Option, Some, None, All, get_or, if◌then◌else◌, refl, sym, ap, ◌∙◌, inl, inr}
 use Rattle.std.specs.List.{list_any}
 use Rattle.std.proofs.lemmas.Bool.{cases_Bool, true≢false}

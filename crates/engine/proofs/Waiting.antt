@@ -19,7 +19,7 @@ use Rattle.engine.specs.Tables.{Table}
 use Rattle.engine.specs.Walks.{Rules, RunsOut, RunsOwned, IsUntouched, by_rules}
 use Rattle.engine.proofs.Turns.{page_unbegun}
 
--- a want that takes memory to keep
+-- a want whose names must be copied
 pub kept_names : (w : Wanted) → HasName w → HasNames (want_of w)
 kept_names (wanted.Node number handle) h = h
 kept_names (wanted.Open number access) h = h
@@ -31,7 +31,7 @@ kept_names (wanted.Exchange parent name new_parent new_name) h = tt
 kept_names (wanted.Create parent name access) h = tt
 
 module _ {W L C D : Type 0} (rules : Rules W L) (does : Behaviour C D) where
-  -- it found no memory to begin again
+  -- memory was refused when it was to begin again
   pub unbegun_after : (a : Attempt) (old mid : Environment W L C D) (link : L) (sent : Sent) → HasNames a.want → IsUntouched old mid
       → rules.sends mid.link (reply_bytes (refusal a.q.unique ENOMEM)) sent link → RunsOut rules does a old sent (around link mid.served mid.at)
   unbegun_after a old mid link sent named same s =
@@ -40,7 +40,7 @@ module _ {W L C D : Type 0} (rules : Rules W L) (does : Behaviour C D) where
       (subst (λ (w : W). RunsOut rules does a old sent (around link old.served w)) (sym same.world_is) at_once)
 
 module _ {W L C D : Type 0} (table : Table W) (sends : L → List ℕ → Sent → L → Type 0) (does : Behaviour C D) where
-  -- it has begun at last
+  -- it has begun in the end
   pub runs_after : (settings now : Settings) (q : Request) (want w : Want) (lends : List FolderCall) (page p : Paged) (old mid new : Environment W L C D) (sent : Sent) → now ≡ settings → w ≡ want → p ≡ page → IsUntouched old mid
       → RunsOwned (by_rules table now sends) does (attempt q w lends p) (around mid.link mid.served mid.at) sent new
       → RunsOut (by_rules table settings sends) does (attempt q want lends page) (around old.link old.served old.at) sent new

@@ -1,4 +1,4 @@
--- What the code of a session has done goes on by a frame and by a piece.
+-- Extending what the code of a session has done by a frame and by a receive.
 use Rattle.std.proofs.Common.{ℕ, ◌≡◌, List, [], ◌∷◌, ◌++◌, Option, Some, None, refl, sym, subst, ap, ◌∙◌}
 use Rattle.wire.specs.Requests.{IsFramed}
 use Rattle.wire.specs.Stream.{BeginsBadly, IsPartial}
@@ -21,7 +21,7 @@ module _ {W L C D : Type 0} (table : Table W) (settings : Settings) (over : Traf
     chain = chain_append (IsStep table settings over does) old mid new a.steps b.steps a.chain b.chain;
   }
 
-  -- a frame that stood first in the bytes kept
+  -- a frame at the front of the kept bytes
   frame_walks : (old new : Environment (Stand W) L C D) (kept frame more : List ℕ) (end : Option SessionEnd) → kept ≡ frame ++ more → IsFramed frame → table.is_idle new.at.world
       → IsHandled (by_rules table settings over.sends) does frame old end new
       → Walks table settings over does (side old kept) (reaching (side new more) end)
@@ -47,7 +47,7 @@ module _ {W L C D : Type 0} (table : Table W) (settings : Settings) (over : Traf
       subst (λ (e : Option SessionEnd). Walks table settings over does start (reaching (side new more) e)) is
       (walks_on start (side old kept) (reaching (side new more) result) a one)
 
-  -- a piece that was heard and fed
+  -- bytes that were received and fed to the cutter
   pub piece_on : (start : Side W L C D) (old : Environment (Stand W) L C D) (link : L) (kept piece fed : List ℕ)
       → Walks table settings over does start (side old kept) → IsPartial kept → over.receives old.link (Piece piece) link → fed ≡ kept ++ piece
       → Walks table settings over does start (side (around link old.served old.at) fed)
@@ -63,7 +63,7 @@ module _ {W L C D : Type 0} (table : Table W) (settings : Settings) (over : Traf
         });
       })
 
-  -- a bad length stands next
+  -- the next length is bad
   pub bad_stop : (start : Side W L C D) (old : Environment (Stand W) L C D) (kept now : List ℕ) (len : ℕ) → Walks table settings over does start (side old kept) → kept ≡ now → BeginsBadly kept len
       → WorksOffFrames table settings over does start (side old now) (Some (ends.BadLength len))
   bad_stop start old kept now len walks same bad = record {
@@ -72,6 +72,6 @@ module _ {W L C D : Type 0} (table : Table W) (settings : Settings) (over : Traf
     stops = subst (λ (k : List ℕ). BeginsBadly k len) same bad;
   }
 
-  -- nothing was heard yet
+  -- nothing was received yet
   pub walks_from : (start : Environment (Stand W) L C D) (kept : List ℕ) → kept ≡ [] → Walks table settings over does (side start []) (side start kept)
   walks_from start kept none = subst (λ (k : List ℕ). Walks table settings over does (side start []) (side start k)) (sym none) (walks_none (side start []))

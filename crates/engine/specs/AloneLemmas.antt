@@ -1,4 +1,4 @@
--- One request alone in a table.
+-- A single request in a table.
 use Rattle.std.proofs.lemmas.Bool.{cases_eq, eq-eqb}
 use Rattle.tree.proofs.LookupLemmas.{cases_option}
 use Rattle.std.proofs.Common.{◌≡◌, ◌==◌, ℕ, Bool, true, false, Option, Some, None, length, if◌then◌else◌, refl, sym, ap, ◌∙◌, inl, inr, ℤ, to_z, of_z, w32, arith}
@@ -34,7 +34,7 @@ pub record Ended (id : ℕ) (a : Answer) (new : World) : Type 0 where
   pub id_is : a.id ≡ id
   pub alone : Alone id new.flights
 
--- A request that is begun in an idle table is not lost. A period may end before its work does.
+-- A request that begins in an idle table is not lost. A period may end before its work does.
 pub finishes_one : (old mid renewed fin : World) (unique : ℕ) (want : Want) (claim : Claim) (o : Outcome) (a : Answer) → IsIdle old → Begins old unique want (Go claim) mid → ((k : ℕ) → renewed.flights k ≡ mid.flights k) → Finishes renewed claim.id o a fin → Ended claim.id a fin
 finishes_one old mid renewed fin unique want claim o a idle begins same finishes =
     let goes = begins.begins.1 in
@@ -60,13 +60,13 @@ gone : (b : Bool) (id k : ℕ) (at : RequestsInFlight) → (id == k) ≡ b → (
 gone true id k at e none = ap (λ (b : Bool). if b then None else at k) e
 gone false id k at e none = ap (λ (b : Bool). if b then None else at k) e ∙ none e
 
--- Once it is settled, the table is idle.
+-- After it is settled, the table is idle.
 pub settles_one : (fin renewed new : World) (id : ℕ) (a : Answer) (taken : Bool) (settled : Settlement) → Ended id a fin → ((k : ℕ) → renewed.flights k ≡ fin.flights k) → Settles renewed a taken settled new → IsIdle new
 settles_one fin renewed new id a taken settled ended same s = λ k.
     let ends = s.found ended.not_lost (record { flight = ended.alone.flight; here = same a.id ∙ (ap fin.flights ended.id_is ∙ ended.alone.here); before = ended.alone.before; opened = ended.alone.opened; ended = ended.alone.stage }) in
     ap (λ (w : World). w.flights k) ends.new_is ∙ gone (a.id == k) a.id k renewed.flights refl (λ e. same k ∙ ended.alone.others k (ap (λ n. n == k) (sym ended.id_is) ∙ e))
 
--- A forget leaves it idle.
+-- After a forget the table is idle.
 pub forgets_idle : (old new : World) (number n amount : ℕ) → IsIdle old → Forgets old number n amount new → IsIdle new
 forgets_idle old new number n amount idle h = λ id. elim (cases_eq amount 0) [
   | inl none ↦ ap (λ (w : World). w.flights id) (h.nothing none) ∙ idle id
@@ -76,7 +76,7 @@ forgets_idle old new number n amount idle h = λ id. elim (cases_eq amount 0) [
   ]
 ]
 
--- An error number of the table is written and read as it is.
+-- Writing an error number of the table and reading it back.
 pub refused_bits : (old new : World) (unique : ℕ) (want : Want) (errno : ℤ) → BeginsAnew old unique want (Refused errno) new → BeginsAnew old unique want (Refused (to_z w32 (of_z w32 errno))) new
 refused_bits old new unique want errno a = record {
   renewed = a.renewed;
@@ -84,6 +84,6 @@ refused_bits old new unique want errno a = record {
   begins = let b = a.begins in record { footprint = b.footprint; footprint_is = b.footprint_is; begins = (refusal_bits a.renewed b.footprint errno b.begins.0, b.begins.1) };
 }
 
--- A table that was opened is idle.
+-- A new table is idle.
 pub opened_idle : (limits : Limits) (w : World) → w ≡ opened_world limits → IsIdle w
 opened_idle limits w o = λ id. ap (λ (v : World). v.flights id) o

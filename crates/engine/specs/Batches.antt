@@ -10,8 +10,8 @@ abbrev pub bytes_of : ReplyBytes → List ℕ
 bytes_of (Header frame) = frame
 bytes_of (Whole frame) = frame.items
 
--- Each of these replies is offered, in order and once, until one breaks the link: after that one none is. What became of each that was offered is
--- told in the same order.
+-- Each of these replies is offered, in order and once, until one breaks the link; after that none is. What became of
+-- each that was offered is reported in the same order.
 abbrev pub SendsEach : {L : Type 0} → (L → List ℕ → Sent → L → Type 0) → L → List (List ℕ) → List Sent → L → Type 0
 SendsEach sends link [] [] link' = link' ≡ link
 SendsEach sends link [] (sent ∷ sents) link' = ⊥

@@ -1,4 +1,4 @@
--- Frames by their opcodes.
+-- Classifying frames by their opcodes.
 use Rattle.std.specs.Prelude.{ℕ, ◌==◌, ◌||◌, Bool, if◌then◌else◌}
 use Rattle.wire.specs.declared.opcode.TheConstants.{FORGET, INIT, INTERRUPT, DESTROY, BATCH_FORGET}
 use Rattle.engine.specs.declared.classes.Class.{Class}
@@ -8,7 +8,8 @@ use Rattle.engine.specs.declared.classes.Class.TheVariants.{Ignored, Unexpected,
 abbrev pub is_unanswered : ℕ → Bool
 is_unanswered opcode = opcode == FORGET || opcode == INTERRUPT || opcode == BATCH_FORGET
 
--- Until a version is agreed on, INIT is greeted, and from then on it is out of place, as all that is answered is before.
+-- Until a version is agreed on, INIT is handled, and everything else that gets a reply is unexpected; afterwards INIT is
+-- unexpected.
 abbrev pub class : (agreed : Bool) → ℕ → Class
 class agreed opcode =
     if opcode == INIT then (if agreed then Unexpected else InitFrame) else

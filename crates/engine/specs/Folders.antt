@@ -1,4 +1,4 @@
--- What requests make of the open folders.
+-- What requests do with open folders.
 use Rattle.std.specs.Prelude.{ℕ, ◌≡◌, ◌==◌, Bool, true, false, if◌then◌else◌, List, [], ◌∷◌, Option, Some, None, Ok, Err}
 use Rattle.errno.specs.declared.TheConstants.{EBADF, EINVAL}
 use Rattle.backing.specs.declared.call.Child.{Child}
@@ -17,7 +17,7 @@ use Rattle.engine.specs.declared.entries.Lends.TheVariants as lends
 use Rattle.wire.specs.declared.reply.ReplyBody.{ReplyBody}
 use Rattle.wire.specs.declared.reply.ReplyBody.TheVariants.{Failed, Done}
 
--- these calls, of which that holds, made each once and in order
+-- these calls, for which this holds, each made once and in order
 pub record ByCalls {D : Type 0} (keeps : D → FolderCall → D → Type 0) (old new : D) (holds : List FolderCall → Type 0) : Type 0 where
   pub folders : List FolderCall
   pub chain : Chain keeps old folders new
@@ -34,7 +34,8 @@ abbrev pub given_up : Bool → ReplyBody
 given_up true = Done
 given_up false = Failed EBADF
 
--- What is answered at once, with the calls that are still made. Entries of a page that has room for one are told by a request that begins.
+-- The answer to a request that does not begin, with the further calls. Only a page with room for an entry is returned
+-- by a request that begins.
 abbrev pub Uses : Option OpenFolder → FolderUse → List FolderCall → (meant : ReplyBody) → Type 0
 Uses None usage more meant = (more ≡ []) × (meant ≡ Failed EBADF)
 Uses (Some folder) (ReadNames offset size) more meant =
@@ -43,7 +44,7 @@ Uses (Some folder) (ReadEntries offset size) more meant = (more ≡ []) × IsPag
 Uses (Some folder) GiveUp more meant = (gone : Bool) × (more ≡ Retire folder.fh gone ∷ []) × (meant ≡ given_up gone)
 Uses (Some folder) Sync more meant = (more ≡ []) × (meant ≡ Done)
 
--- the folder of the handle is lent, and used if it is one of the node
+-- the folder under the handle is lent, and used if it is one of the node
 pub record IsUsed (node fh : ℕ) (usage : FolderUse) (folders : List FolderCall) (meant : ReplyBody) : Type 0 where
   pub lent : Option OpenFolder
   pub is_lent : IsLentFor fh lent
@@ -51,7 +52,7 @@ pub record IsUsed (node fh : ℕ) (usage : FolderUse) (folders : List FolderCall
   pub folders_are : folders ≡ Lend fh lent ∷ more
   pub uses : Uses (on_node node lent) usage more meant
 
--- the folder of the handle is lent and is one of the node, and these entries of it are told
+-- the folder under the handle is lent and is one of the node, and these entries of it are returned
 pub record LendsPage (node fh offset size : ℕ) (folders : List FolderCall) (page : Paged) : Type 0 where
   pub folder : OpenFolder
   pub is_lent : IsLent fh folder
@@ -60,12 +61,12 @@ pub record LendsPage (node fh offset size : ℕ) (folders : List FolderCall) (pa
   pub from : page.from ≡ offset
   pub folders_are : folders ≡ Lend fh (Some folder) ∷ []
 
--- all that is not told by a request that begins
+-- every use for which the request does not begin
 abbrev pub IsAtOnce : FolderUse → Type 0
 IsAtOnce (ReadEntries offset size) = ⊥
 IsAtOnce usage = Unit {0}
 
--- in its code: a page of these entries, or what is answered where there is none
+-- in the code: a page of these entries, or the answer if there is none
 abbrev pub PagesOf : List Child → (offset size : ℕ) → Lends → Type 0
 PagesOf entries offset size (lends.Page page) = IsPaged true entries offset size (Some page.entries) × (page.from ≡ offset)
 PagesOf entries offset size (lends.Nothing meant) = IsPaged true entries offset size None × (meant ≡ Failed EINVAL)
@@ -76,17 +77,17 @@ IsLentPage node fh offset size folders (lends.Nothing meant) = IsUsed node fh (R
 
 -- ---- OPENDIR
 
--- the listing of what was found is put, if names of a folder were
+-- the listing of what was found is stored, if names of a folder were
 abbrev pub PutsListing : ℕ → ScriptResult → List FolderCall → (put : Option ℕ) → Type 0
 PutsListing node (findings.Listed children) folders put = (folder : OpenFolder) × IsMade node children (Ok folder) × (folders ≡ Put folder put ∷ [])
 PutsListing node finding folders put = (folders ≡ []) × (put ≡ None)
 
--- there is no memory for a listing, so none is put
+-- memory for a listing was refused, so none is stored
 abbrev pub LacksListing : ℕ → ScriptResult → List FolderCall → (put : Option ℕ) → Type 0
 LacksListing node (findings.Listed children) folders put = IsMade node children (Err Memory) × (folders ≡ []) × (put ≡ None)
 LacksListing node finding folders put = ⊥
 
--- a listing that was put is given up where its request is settled as untaken
+-- the handle of a listing is closed if its request is settled as untaken
 abbrev pub GivesUp : (taken : Bool) → (put : Option ℕ) → List FolderCall → Type 0
 GivesUp false (Some fh) folders = (gone : Bool) × (folders ≡ Retire fh gone ∷ [])
 GivesUp false None folders = folders ≡ []

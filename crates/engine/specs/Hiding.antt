@@ -1,4 +1,4 @@
--- A session in which hidden marks stand on nodes under reserved names alone.
+-- A session in which all nodes with hidden marks are at reserved names.
 use Rattle.std.specs.Prelude.{ℕ, ◌≡◌, false}
 use Rattle.table_hiding.specs.Hiding.{ArePathsOfMarked, KeepsHidden}
 use Rattle.table_steps.specs.Answers.{Settlement}
@@ -7,8 +7,8 @@ use Rattle.table.specs.Gains.{GainsInAll}
 use Rattle.table.specs.Renewing.{BeginsAnew, FinishesAnew, ForgetsAnew, SettlesAnew}
 use Rattle.engine.specs.Tables.{IsIdle, Table}
 
--- the table that is served, where each call leads to a world in which each node with a hidden mark stands under a reserved name: so what is
--- left of hidden files is all that has such a mark
+-- the table that is served, where after each call each node with a hidden mark is at a reserved name: so the leftover
+-- files are all that have such a mark
 abbrev pub hiding : Table World
 hiding = record {
   begins = λ old unique want told new. BeginsAnew old unique want told new × IsLawfulWorld new × KeepsHidden new;

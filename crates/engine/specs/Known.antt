@@ -1,4 +1,4 @@
--- A run of calls of a directory whose tree is known.
+-- A run of calls on a directory whose tree is known.
 use Rattle.std.specs.Prelude.{ℕ, ◌≡◌, ◌+◌, List, [], ◌∷◌, Option}
 use Rattle.backing.specs.Device.{Device, Performs, counted, faulty}
 use Rattle.backing.specs.Tree.{Tree}
@@ -16,7 +16,8 @@ OnTree limit old [] (made ∷ more) new = ⊥
 OnTree limit old (device ∷ devices) [] new = ⊥
 OnTree limit old (device ∷ devices) (made ∷ more) new = (mid : Tree) × Performs limit old device made.call made.answer mid × OnTree limit mid devices more new
 
--- All these calls are those of the tree, with the faults of its device as inputs; each fault is counted, and nothing else is.
+-- All these calls are calls on the tree, with the failures of its device as inputs; each failure is counted, and
+-- nothing else is.
 pub record KnownRun {C : Type 0} (limit : Option ℕ) (tree_of : C → Tree) (faults : C → ℕ) (old : C) (made : List Made) (new : C) : Type 0 where
   pub devices : List Device
   pub on_tree : OnTree limit (tree_of old) devices made (tree_of new)

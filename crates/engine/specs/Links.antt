@@ -1,4 +1,4 @@
--- What passes over a link.
+-- The traffic of a link.
 use Rattle.std.specs.Prelude.{ℕ, ◌≤◌, ◌+◌, ◌-◌, ◌^◌, min, List, take}
 use Rattle.engine.specs.declared.links.Received.{Received}
 use Rattle.engine.specs.declared.links.Received.TheVariants as received
@@ -11,7 +11,7 @@ pub data Heard : Type 0 where
   Ended : Heard
   Broke : Heard
 
--- the same, as it stands at the front of the room for it
+-- the same, in terms of the buffer that was filled
 abbrev pub heard : Received → List ℕ → Heard
 heard (received.Bytes n) room = Piece (take n room)
 heard received.End room = Ended
@@ -44,6 +44,6 @@ missed Taken = 0
 missed Untaken = 1
 missed Broken = 1
 
--- a count of 64 bits, which stays when it is full
+-- a count of 64 bits, which stays at its maximum
 abbrev pub counted : ℕ → ℕ → ℕ
 counted n by = n + min by (2 ^ 64 - 1 - n)

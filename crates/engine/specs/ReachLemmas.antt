@@ -1,4 +1,4 @@
--- A table that one thread has alone, as a way to reach it.
+-- A table that one thread owns, as a way to access it.
 use Rattle.std.proofs.Common.{ℕ, ℤ, ◌≡◌, Bool, Option, to_z, of_z, w32, sym, ap, subst, ◌∙◌}
 use Rattle.std.proofs.lemmas.Option.{none-some}
 use Rattle.table_files.specs.declared.data.OpenFile.{OpenFile}
@@ -18,7 +18,7 @@ use Rattle.engine.specs.AloneLemmas.{finishes_one, forgets_idle, refused_bits, s
 pub gains_on : (old mid new : World) (before between after : Part) → GainsInAll old before mid between → GainsInAll mid between new after → GainsInAll old before new after
 gains_on = gaining.in_all_on
 
--- No request is in flight that could be in the way.
+-- No other request is in flight, so there is no conflict.
 pub waits : (old new : World) (unique : ℕ) (want : Want) → IsIdle old → worlds.begins old unique want Busy new → new ≡ old
 waits old new unique want idle b =
     let up = b.0.begins.begins.1.up in

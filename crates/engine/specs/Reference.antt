@@ -1,4 +1,4 @@
--- A session as it ought to go: one frame after another, each worked off before the next.
+-- The reference for a session: one frame after another, each handled before the next.
 use Rattle.std.specs.Prelude.{ℕ, ℤ, ◌≡◌, ◌⊎◌, Bool, true, false, if◌then◌else◌, List, [], ◌++◌, map, length, Option, Some, None}
 use Rattle.std.specs.Option.{option_map}
 use Rattle.errno.specs.declared.TheConstants.{EIO, ENOMEM, EPROTO}
@@ -46,11 +46,11 @@ use Rattle.ops.specs.Replies.{file_reply, reply_to}
 use Rattle.ops.specs.Scripts.{plan_of, End, Made, Follows}
 use Rattle.engine.specs.Tables.{Table}
 
--- ---- one frame: what came of it
+-- ---- one frame and its results
 
 -- where memory was refused first
 pub data Place : Type 0 where
-  AtBegin : Place  -- at begin at the latest
+  AtBegin : Place  -- when the request began, or earlier
   AtScript : Place
   AtListing : Place
   AtReply : Place
@@ -60,7 +60,8 @@ pub record Offer : Type 0 where
   pub reply : Reply
   pub sent : Sent
 
--- a frame, where memory was refused for it, the calls that it made of the directory and of the open folders with their answers, what was replied, and whether the client ended the session with it
+-- a frame; where memory was refused for it; the calls of the directory and of the open folders that it made, with their
+-- answers; the reply; and whether the client ended the session with it
 pub record Turn : Type 0 where
   pub frame : List ℕ
   pub refused : Option Place
@@ -95,7 +96,7 @@ abbrev pub Offers : Option Offer → ℕ → ReplyBody → Type 0
 Offers None unique said = ⊥
 Offers (Some offer) unique said = offer.reply ≡ record { unique = unique; body = said }
 
--- What is said where this is meant: where the reply found no memory, ENOMEM takes its place.
+-- What is sent if this reply is meant: if memory for it was refused, ENOMEM is sent instead.
 abbrev pub IsSaid : Option Place → (meant said : ReplyBody) → Type 0
 IsSaid None meant said = said ≡ meant
 IsSaid (Some AtBegin) meant said = ⊥
@@ -103,13 +104,13 @@ IsSaid (Some AtScript) meant said = ⊥
 IsSaid (Some AtListing) meant said = ⊥
 IsSaid (Some AtReply) meant said = TakesMemory meant × (said ≡ Failed ENOMEM)
 
--- the same of a request that has begun; where its script or its listing found no memory, it is ENOMEM
+-- the same for a request that has begun; if memory for its script or its listing was refused, it is ENOMEM
 abbrev pub IsTold : Option Place → (meant said : ReplyBody) → Type 0
 IsTold (Some AtScript) meant said = said ≡ Failed ENOMEM
 IsTold (Some AtListing) meant said = said ≡ Failed ENOMEM
 IsTold refused meant said = IsSaid refused meant said
 
--- a frame that makes no call of the directory, these of the open folders, and changes nothing
+-- a frame that makes no call of the directory, makes these of the open folders, and changes nothing
 pub record Says {W : Type 0} (folders : List FolderCall) (unique : ℕ) (said : ReplyBody) (old : W) (turn : Turn) (new : W) : Type 0 where
   pub offers : Offers turn.offer unique said
   pub no_call : turn.made ≡ []
@@ -127,7 +128,7 @@ pub record IsSilent (turn : Turn) : Type 0 where
   pub no_folder : turn.folders ≡ []
   pub no_place : turn.refused ≡ None
 
--- a request that uses an open folder, is answered at once and changes nothing in the table
+-- a request that uses an open folder, is answered at once, and changes nothing in the table
 pub record UsesFolder {W : Type 0} (q : Request) (fh : ℕ) (usage : FolderUse) (old : W) (turn : Turn) (new : W) : Type 0 where
   pub meant : ReplyBody
   pub used : IsUsed q.node fh usage turn.folders meant
@@ -137,29 +138,30 @@ pub record UsesFolder {W : Type 0} (q : Request) (fh : ℕ) (usage : FolderUse) 
   pub no_call : turn.made ≡ []
   pub same : new ≡ old
 
--- the listing of an OPENDIR is put, unless there was no memory for it
+-- the listing of an OPENDIR is stored, unless memory for it was refused
 abbrev pub Stores : Option Place → ℕ → ScriptResult → List FolderCall → (put : Option ℕ) → Type 0
 Stores (Some AtListing) node finding folders put = LacksListing node finding folders put
 Stores refused node finding folders put = PutsListing node finding folders put
 
--- without memory for its listing or its reply a request counts as untaken
+-- if memory for its listing or its reply was refused, a request counts as untaken
 abbrev pub taken_of : Option Place → Option Offer → Bool
 taken_of None offer = was_taken (sent_in offer)
 taken_of (Some place) offer = false
 
--- names, or a page of them, are copied for it before it begins, which takes memory
+-- names, or a page of them, are copied before it begins, which allocates
 abbrev pub HasNames : Want → Type 0
 HasNames (wants.Node number handle) = ⊥
 HasNames (wants.Open number access) = ⊥
 HasNames (wants.Release number fh) = ⊥
 HasNames want = Unit {0}
 
--- The calls of a request that has begun, and what they come to. Without memory for its script it makes none, and fails.
+-- The calls of a request that has begun, and their result. If memory for its script was refused, it makes none and
+-- fails.
 abbrev pub Plays : Settings → Option Place → Operation → Claim → List Made → End → Type 0
 Plays settings (Some AtScript) operation ticket made end = LooksAtEach operation × (made ≡ []) × (end ≡ record { outcome = outcomes.Failed; findings = findings.Error ENOMEM })
 Plays settings refused operation ticket made end = Follows (plan_of settings operation ticket) made end
 
--- ---- where a session stands: the table, whether a version is agreed on, and how it has ended if it has
+-- ---- the state of a session: the table, whether a version is agreed on, and how it has ended, if it has
 
 pub record At (W : Type 0) : Type 0 where
   pub world : W
@@ -169,7 +171,7 @@ pub record At (W : Type 0) : Type 0 where
 abbrev pub starting : {W : Type 0} → W → At W
 starting world = record { world = world; agreed = false; end = None }
 
--- A reply that broke the link ends the session, also where it answered DESTROY; else DESTROY ends it.
+-- A reply that broke the link ends the session, even if it answered a DESTROY; otherwise DESTROY ends it.
 abbrev pub ending : Option Sent → (destroyed : Bool) → Option SessionEnd
 ending sent destroyed = if was_broken sent then Some ends.LinkBroken else (if destroyed then Some ends.Destroyed else None)
 
@@ -199,13 +201,13 @@ abbrev pub HandlesInit : {W : Type 0} → ℕ → Option Negotiated → (before 
 HandlesInit unique None before old turn new now = ⊥
 HandlesInit unique (Some answer) before old turn new now = Answers unique (init_reply_of answer) old turn new × (now ≡ agrees answer before)
 
--- ---- the rules, by the table's steps
+-- ---- the rules, in terms of the table's steps
 
--- lookups of one node after another
+-- lookups of one node after another are forgotten
 abbrev pub ForgetsAll : {W : Type 0} → Table W → W → List ForgetOne → W → Type 0
 ForgetsAll {W = W} table = Chain (λ (old : W) (lookups : ForgetOne) (new : W). table.forgets old lookups.node lookups.nlookup new)
 
--- a request that is to begin with a want, after these calls of the open folders, and is to tell this page
+-- a request that is to begin with a want, after these calls of the open folders, and that returns this page
 pub record Attempt : Type 0 where
   pub q : Request
   pub want : Want
@@ -244,7 +246,8 @@ module _ {W : Type 0} (table : Table W) (settings : Settings) where
     pub begins : table.begins old a.q.unique a.want (Refused errno) new
     pub says : Says a.lends a.q.unique (Failed errno) new turn new
 
-  -- No other request is in flight, so none is in its way. It finds no memory to begin only where names are copied for it.
+  -- No other request is in flight, so there is no conflict. Memory can be refused at its begin only if names are copied
+  -- for it.
   abbrev pub WorksOff : Option Place → Attempt → W → Turn → W → Type 0
   WorksOff None a old turn new = IsRefused a old turn new ⊎ RunsRequest a old turn new
   WorksOff (Some AtBegin) a old turn new = HasNames a.want × Says a.lends a.q.unique (Failed ENOMEM) old turn new
@@ -252,7 +255,7 @@ module _ {W : Type 0} (table : Table W) (settings : Settings) where
   WorksOff (Some AtListing) a old turn new = RunsRequest a old turn new
   WorksOff (Some AtReply) a old turn new = RunsRequest a old turn new
 
-  -- a request that tells entries of an open folder, and begins
+  -- a request that returns entries of an open folder, and begins
   abbrev pub TellsEntries : Request → (fh : ℕ) → FolderUse → W → Turn → W → Type 0
   TellsEntries q fh (ReadEntries offset size) old turn new =
       (lends : List FolderCall) × (page : Paged) × LendsPage q.node fh offset size lends page × WorksOff turn.refused (attempt q (page_want q.node page.entries) lends page) old turn new
@@ -270,7 +273,7 @@ module _ {W : Type 0} (table : Table W) (settings : Settings) where
   abbrev pub Refuses : ℤ → W → Turn → W → Type 0
   Refuses errno old turn new = Answers (unique_in turn.frame) (Failed errno) old turn new
 
-  -- a frame that is no request is answered with its fault, if its opcode is answered at all
+  -- a frame that is not a request is answered with its fault, if its opcode is answered at all
   abbrev pub Faults : (unanswered : Bool) → WireFault → W → Turn → W → Type 0
   Faults true fault old turn new = IsSilent turn × (new ≡ old)
   Faults false fault old turn new = Refuses (fault_errno fault) old turn new
@@ -280,7 +283,7 @@ module _ {W : Type 0} (table : Table W) (settings : Settings) where
       ((q : Request) × IsRequest turn.frame q × Serves q (intent settings q) old turn new)
       ⊎ ((fault : WireFault) × IsFirstFault turn.frame fault × Faults (is_unanswered (opcode_in turn.frame)) fault old turn new)
 
-  -- a frame of each class, and whether a version was agreed on before it and is now
+  -- a frame of each class, and whether a version was agreed on before it and is afterwards
   abbrev pub HandlesFrame : (before : Bool) → Class → W → Turn → W → (now : Bool) → Type 0
   HandlesFrame before Ignored old turn new now = IsSilent turn × (new ≡ old) × Stays before turn now
   HandlesFrame before Unexpected old turn new now = Refuses EIO old turn new × Stays before turn now
@@ -302,7 +305,7 @@ module _ {W : Type 0} (table : Table W) (settings : Settings) where
 
 -- ---- how a session ends
 
--- how hearing stopped, if the session was not over before
+-- why receiving stopped, if the session was not over before
 pub data Stop : Type 0 where
   AtEnd : Stop
   Lost : Stop
@@ -310,8 +313,8 @@ pub data Stop : Type 0 where
 abbrev pub frames_of : List Turn → List (List ℕ)
 frames_of turns = map (λ turn. turn.frame) turns
 
--- A frame ended it and the frames after it are dropped; or all frames were worked off, and the input ended, the link broke,
--- or a length stood next that no frame has; or the cutter found no memory for what stood next.
+-- A frame ended the session, and the frames after it are dropped; or all frames were handled, and then the input ended,
+-- the link broke, or the next length was one that no frame may have; or memory for the next bytes was refused.
 abbrev pub Closes : Option SessionEnd → SessionEnd → Option Stop → (dropped : List (List ℕ)) → (rest : List ℕ) → Type 0
 Closes (Some reached) end stop dropped rest = (end ≡ reached) × (stop ≡ None)
 Closes None (ends.Closed len) stop dropped rest = (stop ≡ Some AtEnd) × (dropped ≡ []) × IsPartial rest × (len ≡ length rest)
@@ -323,8 +326,8 @@ Closes None ends.NoWorkers stop dropped rest = ⊥
 
 -- ---- a whole session
 
--- Inputs: the bytes heard and how hearing them stopped. Outputs: the frames worked off with their calls and replies, the last
--- table, and the end. Between two frames no request is in flight.
+-- Inputs: the bytes received, and why receiving stopped. Outputs: the frames that were handled, with their calls and
+-- replies, the last state of the table, and the end. Between two frames no request is in flight.
 pub record IsSession {W : Type 0} (table : Table W) (settings : Settings) (world : W) (heard : List ℕ) (stop : Option Stop) (turns : List Turn) (last : W) (end : SessionEnd) : Type 0 where
   pub fresh : table.is_idle world
   pub dropped : List (List ℕ)

@@ -1,4 +1,4 @@
--- A table by its steps, and what a session knows of its insides: how it stands between two requests.
+-- A table in terms of its steps, and what a session knows about its state between two requests.
 use Rattle.std.specs.Prelude.{ℕ, ◌≡◌, Bool, false, List, Option, None}
 use Rattle.paths.specs.Prefixes.{Names}
 use Rattle.table_files.specs.declared.data.OpenFile.{OpenFile}
@@ -14,17 +14,17 @@ use Rattle.table.specs.Renewing.{BeginsAnew, FinishesAnew, ForgetsAnew, SettlesA
 
 -- a table whose states are the elements of W
 pub record Table (W : Type 0) : Type 1 where
-  -- the period of the ledger ends first where it is due, and then the request is taken up
+  -- the period of the ledger ends first if that is due, and then the request begins
   pub begins : W → (unique : ℕ) → Want → Begin → W → Type 0
   pub finishes : W → (id : ℕ) → Outcome → Answer → W → Type 0
-  -- an answer, and the handle of the listing that was put for it
+  -- an answer, and the handle of the listing that was stored for it
   pub settles : W → Answer → (put : Option ℕ) → (taken : Bool) → W → Type 0
   pub forgets : W → (number n : ℕ) → W → Type 0
-  -- the open file under a handle, if there is one
+  -- the file open under a handle, if there is one
   pub finds : W → (fh : ℕ) → Option OpenFile → W → Type 0
-  -- an answer of its own
+  -- an answer of this table
   pub knows : Answer → Type 0
-  -- no request was finished since the caller came to it
+  -- no request was finished since the caller has had it
   pub is_free : W → Type 0
   -- this answer was given last, and is to be settled
   pub holds : W → Answer → Type 0

@@ -1,4 +1,4 @@
--- Where the code of a session stands, and what it has done.
+-- How far the code of a session is, and what it has done.
 use Rattle.std.specs.Prelude.{ℕ, ◌≡◌, ◌≢◌, ◌⊎◌, Bool, true, false, is_some, map, List, ◌++◌, Option, Some, None}
 use Rattle.backing.specs.declared.call.Child.{Child}
 use Rattle.errno.specs.declared.TheConstants.{ENOMEM}
@@ -39,7 +39,7 @@ use Rattle.engine.specs.declared.using.HandleUse.{HandleUse}
 use Rattle.engine.specs.declared.entries.PageAsk.{PageAsk}
 use Rattle.engine.specs.Tables.{Table}
 
--- the link, what is served on, the table and the bytes kept
+-- the link, what is served, the table, and the kept bytes
 pub record Side (W L C D : Type 0) : Type 0 where
   pub link : L
   pub served : Served C D
@@ -60,7 +60,7 @@ standing s end = record { world = s.world; agreed = s.agreed; end = end }
 abbrev pub side : {W L C D : Type 0} → Environment (Stand W) L C D → List ℕ → Side W L C D
 side e kept = record { link = e.link; served = e.served; at = standing e.at None; kept = kept }
 
--- the same, and how the session has ended
+-- the same, and how the session ended
 abbrev pub reaching : {W L C D : Type 0} → Side W L C D → Option SessionEnd → Side W L C D
 reaching s end = record s { at = record (s.at) { end = end } }
 
@@ -70,14 +70,14 @@ Passes sends old None new = new ≡ old
 Passes sends old (Some offer) new = sends old (reply_bytes offer.reply) offer.sent new
 
 module _ {W L C D : Type 0} (table : Table W) (settings : Settings) (over : Traffic L) (does : Behaviour C D) where
-  -- a piece is heard
+  -- bytes are received
   pub record HearsPiece (old : Side W L C D) (bytes : List ℕ) (new : Side W L C D) : Type 0 where
     pub goes : old.at.end ≡ None
     pub partial : IsPartial old.kept
     pub brought : over.receives old.link (Piece bytes) new.link
     pub rest : new ≡ record old { link = new.link; kept = old.kept ++ bytes }
 
-  -- a frame is worked off
+  -- a frame is handled
   pub record WorksFrame (old : Side W L C D) (turn : Turn) (new : Side W L C D) : Type 0 where
     pub is_turn : IsTurn table settings old.at turn new.at
     pub front : old.kept ≡ turn.frame ++ new.kept
@@ -95,7 +95,7 @@ module _ {W L C D : Type 0} (table : Table W) (settings : Settings) (over : Traf
     pub steps : List Step
     pub chain : Chain IsStep old steps new
 
--- why no further frame is worked off: none is there whole, or the session is over
+-- why no further frame is handled: there is no whole one, or the session is over
 abbrev pub Stops : Option SessionEnd → Option SessionEnd → List ℕ → Type 0
 Stops (Some reached) end kept = end ≡ Some reached
 Stops None None kept = IsPartial kept
@@ -106,7 +106,7 @@ Stops None (Some ends.LinkBroken) kept = ⊥
 Stops None (Some ends.Memory) kept = ⊥
 Stops None (Some ends.NoWorkers) kept = ⊥
 
--- the frames that stand whole are worked off
+-- the whole frames are handled
 pub record WorksOffFrames {W L C D : Type 0} (table : Table W) (settings : Settings) (over : Traffic L) (does : Behaviour C D) (old new : Side W L C D) (end : Option SessionEnd) : Type 0 where
   pub reached : Option SessionEnd
   pub walks : Walks table settings over does old (reaching new reached)
@@ -116,15 +116,15 @@ pub record WorksOffFrames {W L C D : Type 0} (table : Table W) (settings : Setti
 abbrev pub listing_found : List Child → End
 listing_found children = record { outcome = Done; findings = findings.Listed children }
 
--- a READDIRPLUS that found these at the names of its page
+-- a READDIRPLUS that found this at the names of its page
 abbrev pub entries_found : List (Option FoundFile) → End
 entries_found founds = record { outcome = outcomes.Entries (map (λ found. is_some found) founds); findings = findings.Looked founds }
 
--- a request whose script found no memory
+-- a request for whose script memory was refused
 abbrev pub no_memory : End
 no_memory = record { outcome = outcomes.Failed; findings = findings.Error ENOMEM }
 
--- no listing and no page is to be made of what a script has found
+-- the result of a script that needs neither a listing nor a page
 abbrev pub IsPlain : ScriptResult → Type 0
 IsPlain (findings.Listed children) = ⊥
 IsPlain (findings.Looked founds) = ⊥
@@ -137,7 +137,7 @@ pub record IsAnswered {L : Type 0} (sends : L → List ℕ → Sent → L → Ty
   pub said_is : IsSaid refused meant.body said
   pub offer : sends old (reply_bytes (record { unique = meant.unique; body = said })) sent new
 
--- an INIT that is answered, and whether a version is agreed on then
+-- an INIT that is answered, and whether a version is agreed on afterwards
 pub record RepliesInit {L : Type 0} (sends : L → List ℕ → Sent → L → Type 0) (unique : ℕ) (answer : Negotiated) (before : Bool) (old : L) (sent : Sent) (new : L) (now : Bool) : Type 0 where
   pub told : IsAnswered sends (record { unique = unique; body = init_reply_of answer }) old sent new
   pub agreed : now ≡ agrees answer before
@@ -171,7 +171,7 @@ pub record RepliesTaken {L : Type 0} (sends : L → List ℕ → Sent → L → 
 
 -- ---- requests
 
--- what a request is answered by: the table, who owns what is mirrored, and what may become of a reply
+-- what a request's answer depends on: the table, whose attributes are reported, and what may become of a reply
 pub record Rules (W L : Type 0) : Type 1 where
   pub table : Table W
   pub settings : Settings
@@ -180,7 +180,7 @@ pub record Rules (W L : Type 0) : Type 1 where
 abbrev pub by_rules : {W L : Type 0} → Table W → Settings → (L → List ℕ → Sent → L → Type 0) → Rules W L
 by_rules table settings sends = record { table = table; settings = settings; sends = sends }
 
--- a request that has begun, with the page that it tells and its ticket
+-- a request that has begun, with the page that it returns and its ticket
 pub record Begun : Type 0 where
   pub q : Request
   pub page : Paged
@@ -189,7 +189,7 @@ pub record Begun : Type 0 where
 abbrev pub begun : Request → Paged → Claim → Begun
 begun q page ticket = record { q = q; page = page; ticket = ticket }
 
--- where a reply goes, and where the table stands
+-- the destination of replies, and the state of the table
 pub record LinkAndTable (L W : Type 0) : Type 0 where
   pub link : L
   pub world : W
@@ -197,7 +197,8 @@ pub record LinkAndTable (L W : Type 0) : Type 0 where
 abbrev pub with_table : {L W : Type 0} → L → W → LinkAndTable L W
 with_table link world = record { link = link; world = world }
 
--- a request whose script has made these calls and come to an end is finished, answered and settled, with these calls of the open folders
+-- a request whose script has made these calls and ended is finished, answered and settled, with these calls of the open
+-- folders
 pub record Concludes {W L : Type 0} (rules : Rules W L) (b : Begun) (made : List Made) (end : End) (folders : List FolderCall) (old : LinkAndTable L W) (sent : Sent) (new : LinkAndTable L W) : Type 0 where
   pub refused : Option Place
   pub script : Plays rules.settings refused b.q.operation b.ticket made end
@@ -216,7 +217,7 @@ pub record Concludes {W L : Type 0} (rules : Rules W L) (b : Begun) (made : List
   pub folders_are : folders ≡ first ++ last
 
 module _ {W L C D : Type 0} (rules : Rules W L) (does : Behaviour C D) where
-  -- what came of one frame, and whether a version is agreed on before it and then
+  -- the results of one frame, and whether a version is agreed on before it and afterwards
   pub record IsHandled (frame : List ℕ) (old : Environment (Stand W) L C D) (end : Option SessionEnd) (new : Environment (Stand W) L C D) : Type 0 where
     pub turn : Turn
     pub frame_is : turn.frame ≡ frame
@@ -225,7 +226,7 @@ module _ {W L C D : Type 0} (rules : Rules W L) (does : Behaviour C D) where
     pub draws : Draws does old.served turn.made turn.folders new.served
     pub passes : Passes rules.sends old.link turn.offer new.link
 
-  -- what came of a request of a session that has agreed on a version
+  -- the results of a request of a session that has agreed on a version
   pub record WorkedOff (frame : List ℕ) (old : Environment W L C D) (sent : Option Sent) (new : Environment W L C D) : Type 0 where
     pub turn : Turn
     pub frame_is : turn.frame ≡ frame
@@ -235,14 +236,14 @@ module _ {W L C D : Type 0} (rules : Rules W L) (does : Behaviour C D) where
     pub draws : Draws does old.served turn.made turn.folders new.served
     pub passes : Passes rules.sends old.link turn.offer new.link
 
-  -- a request that has begun is played, and concluded
+  -- the script of a request that has begun is played, and the request is concluded
   pub record RunsScript (b : Begun) (old : Environment W L C D) (sent : Sent) (new : Environment W L C D) : Type 0 where
     pub made : List Made
     pub end : End
     pub makes : Makes does.gives old.served.calls made new.served.calls
     pub concludes : ByCalls does.keeps old.served.dirs new.served.dirs (λ folders. Concludes rules b made end folders (with_table old.link old.at) sent (with_table new.link new.at))
 
-  -- a request that is begun, whatever frame it stands in
+  -- a request that begins, whatever its frame
   pub record RunsOut (a : Attempt) (old : Environment W L C D) (sent : Sent) (new : Environment W L C D) : Type 0 where
     pub refused : Option Place
     pub made : List Made
@@ -252,7 +253,7 @@ module _ {W L C D : Type 0} (rules : Rules W L) (does : Behaviour C D) where
     pub offer : rules.sends old.link (reply_bytes (record { unique = a.q.unique; body = said })) sent new.link
     pub works : (frame : List ℕ) → WorksOff rules.table rules.settings refused a old.at (record { frame = frame; refused = refused; made = made; folders = a.lends ++ more; offer = Some (record { reply = record { unique = a.q.unique; body = said }; sent = sent }); destroyed = false }) new.at
 
-  -- the same of a want that has its names already: it was not for want of memory for these that it did not begin
+  -- the same for a want that owns its names: so it was not for lack of memory for these that it did not begin
   pub record RunsOwned (a : Attempt) (old : Environment W L C D) (sent : Sent) (new : Environment W L C D) : Type 0 where
     pub runs : RunsOut a old sent new
     pub owned : runs.refused ≢ Some AtBegin
@@ -265,7 +266,7 @@ module _ {W L C D : Type 0} (rules : Rules W L) (does : Behaviour C D) where
     pub calls_are : new.served.calls ≡ old.served.calls
     pub world_is : new.at ≡ old.at
 
-  -- entries of an open folder are told by a request that begins
+  -- entries of an open folder are returned by a request that begins
   pub record TellsPage (q : Request) (ask : PageAsk) (old : Environment W L C D) (sent : Sent) (new : Environment W L C D) : Type 0 where
     pub page : Paged
     pub lent : D
@@ -276,11 +277,11 @@ module _ {W L C D : Type 0} (rules : Rules W L) (does : Behaviour C D) where
   TellsOut q fh (ReadEntries offset size) old sent new = TellsPage q (record { fh = fh; offset = offset; size = size }) old sent new
   TellsOut q fh usage old sent new = ⊥
 
-  -- an open folder is used, whatever frame the request stands in
+  -- an open folder is used, whatever the frame of the request
   abbrev pub UsesOut : Request → HandleUse → Environment W L C D → Sent → Environment W L C D → Type 0
   UsesOut q used old sent new = IsUsedBy q used old sent new ⊎ TellsOut q used.fh used.usage old sent new
 
--- another request was in the way: nothing was done
+-- there was a conflict with another request, and nothing was done
 pub record IsUntouched {W L C D : Type 0} (old new : Environment W L C D) : Type 0 where
   pub link_is : new.link ≡ old.link
   pub served_is : new.served ≡ old.served

@@ -4,10 +4,10 @@ ghost use Rattle.std.specs.Prelude.{◌≡◌};
 
 use smallvec::SmallVec;
 
-/// No reply without data is longer: that to a CREATE is the longest.
+/// The maximum length of a reply without data: the reply to a CREATE is the longest.
 pub const SHORT_REPLY: usize = 160;
 
-/// The bytes of a reply. A header alone takes no memory, and neither does another one without data.
+/// The bytes of a reply. Only a reply with data needs an allocation.
 #[derive(Drop)]
 pub enum ReplyBytes {
     Header([u8; 16]),
@@ -17,7 +17,7 @@ pub enum ReplyBytes {
 impl ReplyBytes {
     ghost use Rattle.engine.specs.Batches.{bytes_of};
 
-    /// All of them.
+    /// All its bytes.
     pub fn as_slice(&self) -> &[u8]
         ensures { result.now ≡ bytes_of self.now }
     {

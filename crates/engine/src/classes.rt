@@ -1,4 +1,4 @@
-//! Frames by their opcodes.
+//! Classifying frames by their opcodes.
 
 ghost use Rattle.std.specs.Prelude.{◌≡◌};
 ghost use Rattle.engine.specs.Classes.{class};
@@ -12,15 +12,15 @@ pub enum Class {
     Ignored,
     /// It is answered EIO, whatever its body.
     Unexpected,
-    /// An INIT where no version is agreed on.
+    /// An INIT when no version is agreed on yet.
     InitFrame,
-    /// A DESTROY where one is.
+    /// A DESTROY when a version is agreed on.
     DestroyFrame,
-    /// Any other request where one is.
+    /// Any other request when a version is agreed on.
     Asking,
 }
 
-/// How a frame of that opcode is handled, by whether a version is agreed on.
+/// How a frame with that opcode is handled, depending on whether a version is agreed on.
 pub fn class_of(agreed: bool, opcode: u32) -> Class
     ensures { result ≡ class agreed opcode }
 {

@@ -1,4 +1,4 @@
-//! A request whose script has come to an end: it is finished, answered and settled.
+//! Concluding a request whose script has ended: it is finished, answered and settled.
 
 ghost use Rattle.std.specs.Prelude.{◌≡◌, [], List, Err, Ok, IfSome, IfNone};
 ghost use Rattle.backing.specs.declared.call.Child.{Child};
@@ -22,7 +22,7 @@ use ops::{ScriptResult, opened_reply, reply_to};
 use table::{Answered, Outcome, Ticket};
 use wire::{Reply, ReplyBody, Request};
 
-/// Gives up a listing that was stored for a reply, where that was not taken.
+/// Closes the handle of a listing that was stored for a reply, if the reply was not taken.
 pub fn give_up<D: Folders>(dirs: &mut D, put: Option<u64>, taken: bool)
     ensures { ByCalls D.keeps dirs.old dirs.new (λ last. GivesUp taken put last) }
 {
@@ -38,7 +38,7 @@ pub fn give_up<D: Folders>(dirs: &mut D, put: Option<u64>, taken: bool)
 }
 
 impl Session {
-    /// Answers a request that was finished, and settles it. Tells whether it counts as taken.
+    /// Answers a finished request, and settles it. The flag says whether it counts as taken.
     pub fn settle<T: Ledgers, R: Reach<T>, L: Outlet>(
         &mut self,
         link: &mut L,
@@ -69,7 +69,7 @@ impl Session {
         }
     }
 
-    /// Finishes a request by what its script has found, answers it and settles it.
+    /// Finishes a request with the result of its script, answers it and settles it.
     pub fn finish_and_reply<T: Ledgers, R: Reach<T>, L: Outlet>(
         &mut self,
         link: &mut L,
@@ -94,7 +94,7 @@ impl Session {
         sent
     }
 
-    /// Finishes an OPENDIR that found this listing: it is stored, and given up again where the reply was not taken.
+    /// Finishes an OPENDIR with this listing, which is stored; its handle is closed again if the reply was not taken.
     fn finish_with_listing<T: Ledgers, R: Reach<T>, L: Outlet, D: Folders>(
         &mut self,
         dirs: &mut D,
@@ -124,7 +124,7 @@ impl Session {
         sent
     }
 
-    /// Finishes an OPENDIR whose listing found no memory.
+    /// Finishes an OPENDIR for whose listing memory was refused.
     fn end_without_memory<T: Ledgers, R: Reach<T>, L: Outlet>(
         &mut self,
         link: &mut L,

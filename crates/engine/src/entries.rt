@@ -1,4 +1,4 @@
-//! READDIRPLUS: the page that it tells, and how it is finished, answered and settled.
+//! READDIRPLUS: its page, and how it is finished, answered and settled.
 
 ghost use Rattle.std.specs.Prelude.{◌≡◌, true, [], List, Some, IfOk, OnErr};
 ghost use Rattle.ops.specs.Ahead.{LooksAtEach};
@@ -20,7 +20,8 @@ use std::alloc::{AllocError, Global};
 use table::{Outcome, Ticket};
 use wire::{Reply, ReplyBody, Request};
 
-/// Which page of an open folder is asked for: in at most `size` bytes, from the entry at `offset` (an index) on.
+/// The page of an open folder that is asked for: in at most `size` bytes, from the entry at `offset` on, which is an
+/// index.
 #[derive(Clone, Copy)]
 pub(crate) struct PageAsk {
     pub fh: u64,
@@ -28,16 +29,16 @@ pub(crate) struct PageAsk {
     pub size: u32,
 }
 
-/// What comes of lending a folder for a page.
+/// The result of lending a folder for a page.
 #[derive(Drop)]
 pub(crate) enum Lends {
-    /// These entries are to be told.
+    /// These entries are to be returned.
     Page(Paged),
-    /// There is no page, which is answered at once.
+    /// There is no page, and this is the answer.
     Nothing(ReplyBody),
 }
 
-/// A page of the listing, with entries of its own.
+/// A page of the listing that owns its entries.
 fn take_page(alloc: Global, listing: &Listing, offset: u64, size: u32) -> Result<Lends, AllocError>
     ensures ok { IfOk result (PagesOf listing.now.entries offset size) }
     ensures err { OnErr result ((page : Told) × IsPaged true listing.now.entries offset size (Some page.entries) × (page.from ≡ offset)) }
@@ -48,8 +49,8 @@ fn take_page(alloc: Global, listing: &Listing, offset: u64, size: u32) -> Result
     }
 }
 
-/// A page of the folder under a handle, if it is one of the node. The folder is given back when this returns. An error says that there was
-/// no memory to copy the page.
+/// A page of the folder under a handle, if it is one of the node. The folder is no longer lent when this returns. An
+/// error means that memory for the copy was refused.
 pub(crate) fn lend_page<D: Folders>(
     alloc: Global,
     dirs: &mut D,
@@ -69,7 +70,8 @@ pub(crate) fn lend_page<D: Folders>(
 }
 
 impl Session {
-    /// Finishes a READDIRPLUS whose names were looked at: an entry is given for each that was found, and its page is told.
+    /// Finishes a READDIRPLUS after its names were looked up: an entry is given for each that was found, and the page
+    /// is the reply.
     pub fn tell_entries<T: Ledgers, R: Reach<T>, L: Outlet>(
         &mut self,
         link: &mut L,
@@ -109,7 +111,7 @@ impl Session {
         }
     }
 
-    /// Finishes a request whose script found no memory: it has failed.
+    /// Finishes a request as failed, since memory for its script was refused.
     pub fn end_without_script<T: Ledgers, R: Reach<T>, L: Outlet>(
         &mut self,
         link: &mut L,

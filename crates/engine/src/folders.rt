@@ -1,4 +1,4 @@
-//! What requests make of the open folders.
+//! What requests do with open folders.
 
 ghost use Rattle.std.specs.Prelude.{◌≡◌, List, Some, IfOk, OnErr};
 ghost use Rattle.backing.specs.declared.call.Child.{Child};
@@ -14,7 +14,7 @@ use ops::{FolderUse, names_reply};
 use std::alloc::{AllocError, Global};
 use wire::ReplyBody;
 
-/// What a RELEASEDIR is answered.
+/// The answer to a RELEASEDIR.
 fn given_up(gone: bool) -> ReplyBody
     ensures { result ≡ given_up gone }
 {
@@ -25,8 +25,8 @@ fn given_up(gone: bool) -> ReplyBody
     }
 }
 
-/// What a request is answered at once that uses the folder under a handle, if it is one of the node. An error says that there was no
-/// memory for the reply.
+/// The answer to a request that uses the folder under a handle, if it is one of the node. An error means that memory
+/// for the reply was refused.
 pub(crate) fn use_folder<D: Folders>(
     alloc: Global,
     dirs: &mut D,

@@ -1,4 +1,4 @@
-//! One frame, by whether a version is agreed on.
+//! Handling one frame, depending on whether a version is agreed on.
 
 ghost use Rattle.std.specs.Prelude.{◌≡◌, None, Some};
 ghost use Rattle.wire.specs.Requests.{opcode_in, unique_in, IsFramed};
@@ -21,7 +21,7 @@ use ledger::{Ledgers, Share};
 use std::sync::Wait;
 use wire::{Negotiated, Operation, Reply, ReplyBody, decode, header_of, negotiate};
 
-/// How a session has ended with a reply, if it has.
+/// How the session ended with a reply, if it did.
 fn ending(sent: Option<Sent>, destroyed: bool) -> Option<SessionEnd>
     ensures { result ≡ ending sent destroyed }
 {
@@ -35,7 +35,7 @@ fn ending(sent: Option<Sent>, destroyed: bool) -> Option<SessionEnd>
     None
 }
 
-/// What an INIT is answered.
+/// The answer to an INIT.
 fn init_reply_of(answer: Negotiated) -> ReplyBody
     ensures { result ≡ init_reply_of answer }
 {
@@ -45,7 +45,7 @@ fn init_reply_of(answer: Negotiated) -> ReplyBody
     }
 }
 
-/// Whether a version is agreed on by the answer to an INIT, or was before.
+/// Whether a version is agreed on after this answer to an INIT, or was before.
 fn agrees(answer: Negotiated, before: bool) -> bool
     ensures { result ≡ agrees answer before }
 {
@@ -55,7 +55,7 @@ fn agrees(answer: Negotiated, before: bool) -> bool
     }
 }
 
-/// What an operation comes to that is an INIT.
+/// The result of negotiation, if the operation is an INIT.
 fn negotiated_by(operation: Operation<'_>) -> Option<Negotiated>
     ensures { result ≡ negotiated_by operation.entry }
 {
@@ -70,7 +70,7 @@ fn negotiated_by(operation: Operation<'_>) -> Option<Negotiated>
     }
 }
 
-/// Answers a DESTROY, and tells whether the session ends with it.
+/// Answers a DESTROY, and says whether it ends the session.
 fn handle_destroy<L: Outlet>(link: &mut L, frame: &[u8], unique: u64) -> (Sent, bool)
     requires { unique ≡ unique_in frame.now }
     ensures { HandlesDestroy L.sends frame.now link.old result.0 result.1 link.new }
@@ -90,6 +90,7 @@ impl Session {
         let body = init_reply_of(answer);
         match self.offer(link, Reply { unique, body }) {
             Some(sent) => {
+                // A version is agreed on even if the reply was not taken, but not if there was no memory for the reply.
                 self.agreed = agrees(answer, self.agreed);
                 sent
             }
@@ -116,7 +117,7 @@ impl Session {
         }
     }
 
-    /// Handles one frame. Some end says that the session is over with it.
+    /// Handles one frame. Some end means that it ended the session.
     pub fn handle_frame<H: Wait, T: Ledgers, R: Reach<T>, L: Outlet, C: Calls, D: Folders>(
         &mut self,
         rt: &H,

@@ -1,4 +1,4 @@
-//! One receive, and its bytes kept until their frames are whole.
+//! Receiving bytes and keeping them until their frames are whole.
 
 ghost use Rattle.std.specs.Prelude.{◌≡◌, ◌≤◌, ◌-◌, drop, length};
 ghost use Rattle.engine.specs.Hearing.{IsHeard};
@@ -9,23 +9,23 @@ use crate::links::{LinkIn, Received};
 use std::alloc::Global;
 use wire::{Cutter, MAX_FRAME_LEN};
 
-/// How many bytes are asked of a link at a time: more than the longest frame has.
+/// How many bytes a receive may bring: more than the longest frame has.
 const ROOM: usize = 131_072;
 
-/// How many where memory for so many was refused.
+/// The same when memory for that many was refused.
 const SMALL_ROOM: usize = 4_096;
 
-/// How many bytes stand before those that a receive brings, for what is kept of a frame that has come in part.
+/// How many bytes of room there are before those that a receive brings, for the kept part of an unfinished frame.
 const GAP: usize = MAX_FRAME_LEN;
 
-/// A room for what a receive brings. Where memory for it is refused it is empty.
+/// A buffer for what a receive brings. If memory for it is refused, it is empty.
 pub fn room_in(alloc: Global) -> Vec<u8> {
     let mut room = Vec::new(alloc);
     let _ = room.resize(GAP + ROOM, 0);
     room
 }
 
-/// Receives into what stands in a room from `from` on.
+/// Receives into the buffer from `from` on.
 fn receive_behind<L: LinkIn>(link: &mut L, room: &mut [u8], from: usize) -> Received
     requires { from ≤ length room.old }
     ensures within { IsWithin result (length room.new - from) }
@@ -35,7 +35,7 @@ fn receive_behind<L: LinkIn>(link: &mut L, room: &mut [u8], from: usize) -> Rece
     link.receive(&mut room[from..])
 }
 
-/// Receives without a room that lasts, and keeps a copy of what came.
+/// Receives without the large buffer, and keeps a copy of what came.
 fn hear_little<L: LinkIn>(link: &mut L, cutter: &mut Cutter) -> Option<SessionEnd>
     ensures { IsHeard L.receives link.old cutter.old result link.new cutter.new }
 {
@@ -43,7 +43,7 @@ fn hear_little<L: LinkIn>(link: &mut L, cutter: &mut Cutter) -> Option<SessionEn
     match link.receive(&mut room) {
         Received::Bytes(count) => match cutter.feed(&room[..count]) {
             Ok(()) => None,
-            // It has met no bad length yet.
+            // The cutter has not met a bad length yet.
             Err(_) => Some(SessionEnd::Memory),
         },
         Received::End => Some(SessionEnd::Closed {
@@ -53,7 +53,8 @@ fn hear_little<L: LinkIn>(link: &mut L, cutter: &mut Cutter) -> Option<SessionEn
     }
 }
 
-/// Makes one receive, and keeps what came. The bytes stay where they were received, and the fewer that were kept come before them.
+/// Makes one receive, and keeps what came. The bytes stay where they were received, and those that were kept before are
+/// copied in front of them if they are fewer.
 pub fn hear<L: LinkIn>(link: &mut L, cutter: &mut Cutter, room: &mut Vec<u8>) -> Option<SessionEnd>
     ensures { IsHeard L.receives link.old cutter.old result link.new cutter.new }
 {
@@ -63,7 +64,7 @@ pub fn hear<L: LinkIn>(link: &mut L, cutter: &mut Cutter, room: &mut Vec<u8>) ->
     match receive_behind(link, room.as_mut_slice(), GAP) {
         Received::Bytes(count) => match cutter.feed_from(room, GAP, count) {
             Ok(()) => None,
-            // It has met no bad length yet.
+            // The cutter has not met a bad length yet.
             Err(_) => Some(SessionEnd::Memory),
         },
         Received::End => Some(SessionEnd::Closed {

@@ -1,4 +1,5 @@
-//! Sessions: frames are cut from what a link gives, and each is worked off with a table and a directory before the next.
+//! Sessions: frames are cut from what a link brings, and each is handled with a table and a directory before the next
+//! one.
 #![tactic(auto)]
 
 mod bytes;

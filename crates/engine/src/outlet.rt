@@ -5,16 +5,16 @@ ghost use Rattle.engine.specs.declared.links.Sent.{Sent};
 
 use crate::links::{LinkOut, Sent};
 
-/// Where the reply to a request goes: over a link, or into a buffer, from which a worker puts it into a queue.
+/// The destination of replies: a link, or a buffer from which a worker puts them into a queue.
 pub trait Outlet {
-    /// What may be answered to which reply, and what the outlet is then.
+    /// What may become of a reply, and which state the outlet may be in afterwards.
     ghost sends: { Self → List ℕ → Sent → Self → Type 0 };
 
-    /// Gives a reply that is a header alone. It takes no memory.
+    /// Gives it a reply that is only a header. It does not allocate.
     fn header(&mut self, frame: [u8; 16]) -> Sent
         ensures { sends self.old frame result self.new };
 
-    /// Gives the reply that stands in the buffer, which may be taken.
+    /// Gives it the reply in the buffer, which it may take over.
     fn buffered(&mut self, frame: &mut Vec<u8>) -> Sent
         ensures { sends self.old frame.old.items result self.new };
 }

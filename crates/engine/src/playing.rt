@@ -1,4 +1,4 @@
-//! The calls of a script, made.
+//! Making the calls of a script.
 
 ghost use Rattle.ops.specs.Ahead.{end_of, plan_ahead};
 ghost use Rattle.engine.specs.Playing.{Played};

@@ -1,4 +1,4 @@
-//! Ways to reach a table.
+//! Ways to access a table.
 
 ghost use Rattle.std.specs.Prelude.{◌≡◌, ℕ, ℤ, Option, Bool};
 ghost use Rattle.std.proofs.Common.{to_z, of_z, w32};
@@ -15,9 +15,9 @@ use table::{Answered, Begin, Outcome, Table, Ticket};
 use table_files::OpenFile;
 use table_requests::Want;
 
-/// A way to reach a table: to have it alone, or to take its lock for each call.
+/// A way to access a table: owning it, or taking its lock for each call.
 pub trait Reach<T: Ledgers> {
-    /// What is known of the table between two calls.
+    /// What is known about the table between two calls.
     ghost World: { Type 0 };
 
     ghost world: { Self → World };
@@ -25,12 +25,12 @@ pub trait Reach<T: Ledgers> {
     /// What its calls may do.
     ghost steps: { tables.Table World };
 
-    /// Nothing was posted: a call that does nothing.
+    /// For the prover: nothing was posted. It does nothing.
     fn attest(&self)
         ensures { (share : Part) → steps.gains (world self.now) share (world self.now) share };
 
-    /// Ends the period of the ledger where that is due, and takes up a request. Where another is in its way it may wait for the end of one,
-    /// and then answers Busy.
+    /// Ends the period of the ledger if that is due, and begins a request. If another request conflicts with it, this
+    /// may wait for the end of one, and then returns Busy.
     fn begin(&mut self, unique: u64, want: Want) -> Begin
         ensures begins { steps.begins (world self.old) unique want result (world self.new) }
         ensures gains { (share : Part) → steps.gains (world self.old) share (world self.new) share };
@@ -42,43 +42,43 @@ pub trait Reach<T: Ledgers> {
         ensures holds { steps.holds (world self.new) result }
         ensures gains { steps.gains (world self.old) share.old (world self.new) share.new };
 
-    /// Ends a request, or leaves that to the one who offers its reply. A listing may have been put for it.
+    /// Ends a request, or leaves that to the thread that offers its reply. A listing may have been stored for it.
     fn settle(&mut self, share: &mut Share<T>, answered: Answered, put: Option<u64>, taken: bool)
         requires holds { steps.holds (world self.old) answered }
         ensures settles { steps.settles (world self.old) answered put taken (world self.new) }
         ensures gains { steps.gains (world self.old) share.old (world self.new) share.new };
 
-    /// The client gives lookups of a node back.
+    /// The client forgets lookups of a node.
     fn forget(&mut self, share: &mut Share<T>, number: u64, n: u64)
         ensures forgets { steps.forgets (world self.old) number n (world self.new) }
         ensures gains { steps.gains (world self.old) share.old (world self.new) share.new };
 
-    /// The open file under a handle.
+    /// The file open under a handle.
     fn find(&mut self, fh: u64) -> Option<OpenFile>
         ensures finds { steps.finds (world self.old) fh result (world self.new) }
         ensures gains { (share : Part) → steps.gains (world self.old) share (world self.new) share };
 
-    /// What is gained one call after another is gained in all.
+    /// What is gained by one call after another is gained by both together.
     ghost gains_on: { (old mid new : World) (before between after : Part) → steps.gains old before mid between → steps.gains mid between new after → steps.gains old before new after };
 
-    /// A request that has to wait changes nothing.
+    /// A request that must wait changes nothing.
     ghost waits: { (old new : World) (unique : ℕ) (want : Want) → steps.is_idle old → steps.begins old unique want Busy new → new ≡ old };
 
-    /// A request that is refused leaves it idle.
+    /// A request that is refused keeps an idle table idle.
     ghost refuses: { (old new : World) (unique : ℕ) (want : Want) (errno : ℤ) → steps.is_idle old → steps.begins old unique want (Refused errno) new
         → (steps.begins old unique want (Refused (to_z w32 (of_z w32 errno))) new) × steps.is_idle new };
 
-    /// A request that goes on is not finished yet.
+    /// A request that begins is not finished yet.
     ghost begins_free: { (old new : World) (unique : ℕ) (want : Want) (claim : Claim) → steps.is_free old → steps.begins old unique want (Go claim) new → steps.is_free new };
 
-    /// A request that is carried from its begin to its settle.
+    /// A request that goes from its begin to its settle.
     ghost completes: { (old mid fin new : World) (unique : ℕ) (want : Want) (claim : Claim) (outcome : Outcome) (answer : Answer) (put : Option ℕ) (taken : Bool) → steps.is_idle old
         → steps.begins old unique want (Go claim) mid → steps.finishes mid claim.id outcome answer fin → steps.settles fin answer put taken new → steps.knows answer × steps.is_idle new };
 
-    /// Lookups that are given back leave it idle.
+    /// Forgetting lookups keeps an idle table idle.
     ghost forgets_idle: { (old new : World) (number n : ℕ) → steps.is_idle old → steps.forgets old number n new → steps.is_idle new };
 
-    /// A look at an open file leaves it idle.
+    /// Looking up an open file keeps an idle table idle.
     ghost finds_idle: { (old new : World) (fh : ℕ) (file : Option OpenFile) → steps.is_idle old → steps.finds old fh file new → steps.is_idle new };
 }
 

@@ -1,4 +1,4 @@
-//! One frame of a session.
+//! Handling one request of a session.
 
 ghost use Rattle.std.specs.Prelude.{◌≡◌, ◌≤◌, [], true, false, length, List, IfNone, IfSome};
 ghost use Rattle.wire.specs.Faults.{fault_errno};
@@ -44,21 +44,21 @@ pub fn is_taken(sent: Sent) -> bool
     }
 }
 
-/// Offers an error. It takes no memory.
+/// Offers an error. It does not allocate.
 pub fn refuse<L: Outlet>(link: &mut L, unique: u64, errno: i32) -> Sent
     ensures { L.sends link.old (reply_bytes (refusal unique errno)) result link.new }
 {
     link.header(error_frame(unique, errno))
 }
 
-/// Says that a request is done. It takes no memory.
+/// Offers the reply that a request was done, without a body. It does not allocate.
 pub fn reply_done<L: Outlet>(link: &mut L, unique: u64) -> Sent
     ensures { L.sends link.old (reply_bytes (done_reply unique)) result link.new }
 {
     link.header(error_frame(unique, 0))
 }
 
-/// Answers a faulty frame, unless it is of an opcode that gets no reply.
+/// Answers a faulty frame, unless its opcode gets no reply.
 fn refuse_frame<L: Outlet>(link: &mut L, frame: &[u8], fault: WireFault) -> Option<Sent>
     requires { HEADER_LEN ≤ length frame.now }
     ensures some { IfSome result (λ sent. (is_unanswered (opcode_in frame.now) ≡ false)
@@ -73,18 +73,18 @@ fn refuse_frame<L: Outlet>(link: &mut L, frame: &[u8], fault: WireFault) -> Opti
     }
 }
 
-/// What a session works with beside its link, its directory and its table.
+/// The state of a session, apart from its link, its directory and its table.
 #[derive(Drop)]
 pub struct Session {
     pub alloc: Global,
     pub settings: Settings,
     /// Whether a version is agreed on.
     pub agreed: bool,
-    /// The reply that is written.
+    /// The buffer in which a reply is written.
     pub buffer: Vec<u8>,
 }
 
-/// Gives lookups back, pair after pair.
+/// Forgets lookups, pair by pair.
 fn forget_all<T: Ledgers, R: Reach<T>>(table: &mut R, share: &mut Share<T>, pairs: &[u8])
     requires idle { R.steps.is_idle (R.world table.old) }
     ensures forgets { ForgetsAll R.steps (R.world table.old) (pairs_in pairs.now) (R.world table.new) }
@@ -100,7 +100,7 @@ fn forget_all<T: Ledgers, R: Reach<T>>(table: &mut R, share: &mut Share<T>, pair
 }
 
 impl Session {
-    /// Offers a reply. None says that there was no memory for it.
+    /// Offers a reply. None means that memory for it was refused.
     pub fn offer<L: Outlet>(&mut self, link: &mut L, reply: Reply) -> Option<Sent>
         ensures some { IfSome result (λ sent. L.sends link.old (reply_bytes reply) sent link.new) }
         ensures none { IfNone result (TakesMemory reply.body × (link.new ≡ link.old)) }
@@ -118,7 +118,7 @@ impl Session {
         }
     }
 
-    /// Answers a request at once: with the reply, or with ENOMEM where there is no memory for it.
+    /// Answers a request at once: with the reply, or with ENOMEM if memory for it is refused.
     pub fn answer<L: Outlet>(&mut self, link: &mut L, reply: Reply) -> Sent
         ensures said { IsAnswered L.sends reply link.old result link.new }
         ensures settings { self.new.settings ≡ self.old.settings }
@@ -170,14 +170,15 @@ impl Session {
             }
             found => {
                 let sent = self.finish_and_reply(link, table, share, request, ticket, found);
+                // A later READ may use the buffer of this reply.
                 served.calls.offer_room(&mut self.buffer);
                 sent
             }
         }
     }
 
-    /// Runs a request from begin to settle. None says that another one was in its way, and nothing was done: it is to be begun again.
-    /// The page is that of a READDIRPLUS.
+    /// Runs a request from begin to settle. None means that it conflicts with another one and nothing was done: it must
+    /// begin again. The page is that of a READDIRPLUS.
     pub fn run_request<T: Ledgers, R: Reach<T>, L: Outlet, C: Calls, D: Folders>(
         &mut self,
         link: &mut L,
@@ -211,7 +212,7 @@ impl Session {
         }
     }
 
-    /// Runs a request whose names lie in its frame, and begins it again for as long as another one is in its way.
+    /// Runs a request whose names are in its frame, and begins it again as long as it conflicts with another one.
     pub fn run_wanted<H: Wait, T: Ledgers, R: Reach<T>, L: Outlet, C: Calls, D: Folders>(
         &mut self,
         rt: &H,
@@ -246,7 +247,8 @@ impl Session {
         unreachable!()
     }
 
-    /// Works off a request of a session that has agreed on a version. Some tells what became of its reply.
+    /// Handles a request of a session that has agreed on a version. If it gets a reply, the result says what became of
+    /// that.
     pub fn work_off<H: Wait, T: Ledgers, R: Reach<T>, L: Outlet, C: Calls, D: Folders>(
         &mut self,
         rt: &H,

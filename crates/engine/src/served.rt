@@ -1,4 +1,4 @@
-//! What a session serves on.
+//! What a session serves.
 
 /// A directory, and the open folders of the session.
 #[derive(Drop)]

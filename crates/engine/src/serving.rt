@@ -25,7 +25,7 @@ use std::sync::Wait;
 use table::Table;
 use wire::{CutFault, Cutter};
 
-/// Works off the frames that are there whole. Some end says that the session is over.
+/// Handles the frames that are whole. Some end means that the session is over.
 fn work_off_frames<H: Wait, T: Ledgers, L: Link, C: Calls, D: Folders>(
     rt: &H,
     session: &mut Session,
@@ -64,7 +64,7 @@ fn work_off_frames<H: Wait, T: Ledgers, L: Link, C: Calls, D: Folders>(
     }
 }
 
-/// Works off what a client sends until its session is over.
+/// Handles what a client sends until its session is over.
 fn serve_client<H: Wait, T: Ledgers, L: Link, C: Calls, D: Folders>(
     rt: &H,
     alloc: Global,
@@ -101,7 +101,7 @@ fn serve_client<H: Wait, T: Ledgers, L: Link, C: Calls, D: Folders>(
     unreachable!()
 }
 
-/// Removes these files, each by one call. A fault leaves the file.
+/// Removes these files, with one call each. If a call fails, its file remains.
 fn remove_all<C: Calls>(calls: &mut C, paths: &[Path])
     ensures { RemovesAll C.gives calls.old paths.now calls.new }
 {
@@ -110,7 +110,7 @@ fn remove_all<C: Calls>(calls: &mut C, paths: &[Path])
     }
 }
 
-/// Removes the files of a list, if there was memory for it.
+/// Removes the files in the list, if there was memory for it.
 fn remove_listed<C: Calls>(calls: &mut C, listed: Result<Paths, AllocError>)
     ensures listed { IfOk listed (λ paths. RemovesAll C.gives calls.old paths calls.new) }
     ensures unlisted { OnErr listed (calls.new ≡ calls.old) }
@@ -121,15 +121,16 @@ fn remove_listed<C: Calls>(calls: &mut C, listed: Result<Paths, AllocError>)
     }
 }
 
-/// Removes the files that are still hidden, each by one call. Without memory for the list of them nothing is removed.
+/// Removes the files that are still hidden, with one call each. If memory for the list of them is refused, nothing is
+/// removed.
 pub fn remove_leftovers<T: Ledgers, C: Calls>(calls: &mut C, table: &Table<T>)
     ensures { RemovesLeft worlds C.gives calls.old (world_of table.now) calls.new }
 {
     remove_listed(calls, table.leftover());
 }
 
-/// Serves a client on one thread until its session ends, and removes the files that are still hidden then. The share counts the
-/// postings. No request may be in flight in the table. It may wait for the link.
+/// Serves a client on one thread until its session ends, and then removes the files that are still hidden. The share
+/// counts the postings. No request may be in flight in the table. It may wait for the link.
 pub fn serve<H: Wait, T: Ledgers, L: Link, C: Calls, D: Folders>(
     rt: &H,
     alloc: Global,

@@ -1,4 +1,4 @@
-//! Requests that use an open folder: all but READDIRPLUS are answered at once.
+//! Requests that use an open folder: all except READDIRPLUS are answered at once.
 
 ghost use Rattle.std.specs.Prelude.{◌≡◌, List};
 ghost use Rattle.ops.specs.Pages.{page_want};
@@ -23,7 +23,7 @@ use ops::{FolderUse, Paged};
 use std::sync::Wait;
 use wire::{Reply, Request};
 
-/// What a request makes of an open folder: its handle, and the use.
+/// What a request does with an open folder: its handle, and the use.
 #[derive(Clone, Copy)]
 pub(crate) struct HandleUse {
     pub fh: u64,
@@ -31,7 +31,7 @@ pub(crate) struct HandleUse {
 }
 
 impl Session {
-    /// Runs a READDIRPLUS, and begins it again for as long as another request is in its way.
+    /// Runs a READDIRPLUS, and begins it again as long as it conflicts with another request.
     fn run_page<H: Wait, T: Ledgers, R: Reach<T>, L: Outlet, C: Calls, D: Folders>(
         &mut self,
         rt: &H,
@@ -65,7 +65,8 @@ impl Session {
         unreachable!()
     }
 
-    /// Works off a READDIRPLUS. Its page is copied and the folder given back before it begins; a page that is refused is answered at once.
+    /// Handles a READDIRPLUS. Its page is copied before it begins, and the folder is no longer lent then; a page that
+    /// is refused is answered at once.
     fn read_entries<H: Wait, T: Ledgers, R: Reach<T>, L: Outlet, C: Calls, D: Folders>(
         &mut self,
         rt: &H,
@@ -95,7 +96,7 @@ impl Session {
         self.run_page(rt, link, served, table, share, request, &page)
     }
 
-    /// Works off a request that uses an open folder.
+    /// Handles a request that uses an open folder.
     pub(crate) fn use_folder<H: Wait, T: Ledgers, R: Reach<T>, L: Outlet, C: Calls, D: Folders>(
         &mut self,
         rt: &H,

@@ -85,7 +85,7 @@ module _ {J : Type 0} where
         idle_set vs other spent (λ _. (refl, refl)) (idle_set views port both (λ none. absurd (omega arith)) b.2),
       )
 
-  -- where all parts but those at one place are 0, so is what is 0 of each pass with no part
+  -- if all parts are 0 except at one index, then so is whatever is 0 for each pass without a part
   alone_total : (f : Hand J → ℕ) (views : List (Hand J)) → ((port : ℕ) (v : Hand J) → get_elem? views port ≡ some v → v.parts ≡ 0 → f v ≡ 0) → total (λ v. v.parts) views ≡ 0 → total f views ≡ 0
   alone_total f [] none e = refl
   alone_total f (x ∷ xs) none e = let a : x.parts ≡ 0 = omega arith in let b : total (λ (v : Hand J). v.parts) xs ≡ 0 = omega arith in

@@ -17,7 +17,7 @@ abbrev pick : Bool → ℕ → ℕ → ℕ
 pick true a b = a
 pick false a b = b
 
--- f, with b at a
+-- f, except that it is b at a
 abbrev move : (ℕ → ℕ) → ℕ → ℕ → ℕ → ℕ
 move f a b p = pick (eqb p a) b (f p)
 
@@ -71,7 +71,7 @@ module _ {M : Type 0} where
   all_set F views port w mine others j u e = ⊎_elim (λ (x : (j ≡ port) × (w ≡ u)). subst (λ (y : ℕ × ReplyLane M). F y.0 y.1) (λ i. (sym x.0 i, x.1 i)) mine)
       (λ (x : (j ≢ port) × (get_elem? views j ≡ some u)). others j u x.0 x.1) (at_set views port j w u e)
 
-  -- an element of a longer list is an old one or the new last
+  -- an element of a longer list is an old one, or the new last one
   at_longer_end : (l : List (ReplyLane M)) (a b : ReplyLane M) (j : ℕ) → get_elem? (l ++ a ∷ []) j ≡ some b → (get_elem? l j ≡ some b) ⊎ ((j ≡ length l) × (a ≡ b))
   at_longer_end [] a b zero e = inr (refl, some-injective a b e)
   at_longer_end [] a b (suc j) e = absurd (some-ne-none b (sym e))

@@ -8,13 +8,13 @@ module _ {T : Type 0} where
   total_append f [] ys = omega arith
   total_append f (x ∷ xs) ys = let e = total_append f xs ys in omega arith
 
-  -- the total after a change at one place
+  -- the total after a change at one index
   pub total_set : (f : T → ℕ) (xs : List T) (i : ℕ) (v w : T) → get_elem? xs i ≡ some v → total f (set xs i w) + f v ≡ total f xs + f w
   total_set f [] i v w e = absurd (some-ne-none v (sym e))
   total_set f (x ∷ xs) zero v w e = let same : f x ≡ f v = ap f (some-injective x v e) in omega arith
   total_set f (x ∷ xs) (suc i) v w e = let rest = total_set f xs i v w e in omega arith
 
-  -- one is at most the total
+  -- one element is at most the total
   pub total_at : (f : T → ℕ) (xs : List T) (i : ℕ) (v : T) → get_elem? xs i ≡ some v → (k : ℕ) × (total f xs ≡ f v + k)
   total_at f [] i v e = absurd (some-ne-none v (sym e))
   total_at f (x ∷ xs) zero v e = (total f xs, ap (λ y. f y + total f xs) (some-injective x v e))

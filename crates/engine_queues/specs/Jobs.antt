@@ -18,11 +18,11 @@ module _ {J : Type 0} where
   abbrev pub taken_of : Hand J → Option J → Hand J
   taken_of v x = hand v.parts v.put (v.taken ++ items_of (x ∷ []))
 
-  -- a pass with no part has put and taken nothing
+  -- a pass without a part has put and taken nothing
   abbrev pub IdleIsEmpty : List (Hand J) → Type 0
   IdleIsEmpty views = (port : ℕ) (v : Hand J) → get_elem? views port ≡ some v → v.parts ≡ 0 → (v.put ≡ []) × (v.taken ≡ [])
 
-  -- what was put was taken or is left, however the jobs are weighed
+  -- what was put was taken or is left, for any weights of the jobs
   abbrev pub Accounts : List J → List J → List J → Type 0
   Accounts put taken left = (h : J → ℕ) → total h put ≡ total h taken + total h left
 
@@ -41,6 +41,6 @@ abbrev pub one_if : Bool → ℕ
 one_if true = 1
 one_if false = 0
 
--- how many of them bear the number x
+-- how many of them have the number x
 abbrev pub times : {J : Type 0} → (J → ℕ) → ℕ → List J → ℕ
 times number x js = total (λ j. one_if (eqb (number j) x)) js

@@ -22,11 +22,11 @@ module _ {M : Type 0} where
   abbrev pub got_of : ReplyLane M → Option (QueuedReply M) → ReplyLane M
   got_of v x = record { sends = v.sends; from = v.from; put = v.put; gets = v.gets; got = v.got ++ items_of (x ∷ []); made = v.made; known = v.known }
 
-  -- the writer has made one sender's pass more
+  -- the writer has made one more sender's pass
   abbrev pub one_more : ReplyLane M → ReplyLane M
   one_more v = record { sends = v.sends; from = v.from; put = v.put; gets = v.gets; got = v.got; made = v.made + 1; known = v.known }
 
-  -- the writer is told what an ended sender put
+  -- the writer learns what a sender that has ended had put
   abbrev pub told : ReplyLane M → ReplyLane M → ReplyLane M
   told v u = record { sends = v.sends; from = v.from; put = v.put; gets = v.gets; got = v.got; made = v.made; known = v.known ++ u.put ∷ [] }
 
@@ -44,17 +44,17 @@ module _ {M : Type 0} where
   Bears p (Some r) = r.from ≡ p
   Bears p None = ⊤
 
-  -- the list of place p
+  -- the list at index p
   abbrev pub nth : List (List (QueuedReply M)) → ℕ → List (QueuedReply M)
   nth [] p = []
   nth (l ∷ ls) zero = l
   nth (l ∷ ls) (suc p) = nth ls p
 
-  -- of each sender, what was got and what is left is what it put, in its order
+  -- for each sender, what was got and what is left is what it put, in its order
   abbrev pub IsWhole : List (List (QueuedReply M)) → List (QueuedReply M) → List (QueuedReply M) → Type 0
   IsWhole puts got left = (p : ℕ) → of p (got ++ left) ≡ nth puts p
 
-  -- seat p is 0 where no pass sends as p, else the number of the pass that does, plus 1
+  -- seat p is 0 if no pass sends as p, and otherwise the number of the pass that does, plus 1
   abbrev pub FitsSender : (ℕ → ℕ) → (ℕ → List (QueuedReply M)) → ℕ → ReplyLane M → Type 0
   FitsSender seat sent pass v = v.sends ≡ true → (seat v.from ≡ pass + 1) × (v.put ≡ sent v.from)
 

@@ -1,4 +1,4 @@
-//! The passes of threads that have ended, put together.
+//! Combining the passes of threads that have ended.
 
 ghost use Rattle.std.specs.Prelude.{◌≡◌, ◌<◌, ◌≤◌, ◌+◌, [], length, map, true, List, ℕ, vec_len, vec_capacity};
 ghost use Rattle.std.specs.List.{All, flat_map, range_with_len};
@@ -13,7 +13,7 @@ use crate::jobs::{Cut, JobPass, JobSender, Total};
 use crate::passes::Passes;
 use crate::replies::{ReplyPass, ReplySender, Roles, Whole};
 
-/// Takes in the passes of one worker, the next by its number.
+/// Adds the passes of one worker, the next one by number.
 fn take_in<J: Drop, M: Drop>(
     jobs: &JobSender<J>,
     replies: &ReplySender<M>,
@@ -45,8 +45,8 @@ fn take_in<J: Drop, M: Drop>(
     count
 }
 
-/// What the passes of the reader, of the workers in the order of their numbers and of the writer tell together. The vector that is handed
-/// in gets how many jobs each worker took.
+/// What the passes of the reader, of the workers in order of their numbers, and of the writer say together. How many
+/// jobs each worker took is appended to the vector.
 pub fn gather<J: Drop, M: Drop>(
     jobs: &JobSender<J>,
     replies: &ReplySender<M>,

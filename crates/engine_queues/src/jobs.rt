@@ -1,4 +1,4 @@
-//! The job queue's rule: each job that was put was taken or is left, as often as it was put.
+//! The rule of the job queue: each job that was put was taken or is left, as often as it was put.
 
 ghost use Rattle.std.specs.Prelude.{◌≡◌};
 
@@ -6,7 +6,7 @@ use crossbeam_channel::protocol::{Join, Lesson, Outcome, Protocol, Split};
 use crossbeam_channel::{Pass, RuledReceiver, RuledSender};
 use std::collections::LinkedList;
 
-// What a pass has put and taken, and its parts of the right to know the whole. No value of it is made.
+// What a pass has put and taken, and its share of the right to know the whole. No value of this type is ever made.
 pub struct Hand<J> {
     pub parts: u64,
     pub put: LinkedList<J>,

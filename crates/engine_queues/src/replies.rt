@@ -1,4 +1,5 @@
-//! The reply queue's rule: what the writer took and what is left is, of each sender, what it put, in its order.
+//! The rule of the reply queue: for each sender, what the writer took and what is left is what the sender put, in its
+//! order.
 
 ghost use Rattle.std.specs.Prelude.{◌≡◌};
 
@@ -13,8 +14,8 @@ pub struct QueuedReply<M> {
     pub reply: M,
 }
 
-// What a pass knows. A sender's pass sends as `from`; the writer's gets, has made the senders' passes, and learns of those
-// that have ended what each put. No value of it is made.
+// What a pass knows. A sender's pass sends as `from`. The writer's pass gets, has made the senders' passes, and learns
+// what each sender that has ended had put. No value of this type is ever made.
 pub struct ReplyLane<M> {
     pub sends: bool,
     pub from: u64,

@@ -7,7 +7,7 @@ use Rattle.engine_streams.specs.Device.{Came, Fails, Got, HandsOn, OnDevice, Rea
 use Rattle.engine_streams.specs.declared.device.DeviceFault.{DeviceFault}
 use Rattle.engine_streams.specs.declared.device.DeviceFault.TheVariants.{Gone, Interrupted, Nothing, Unmounted, Other}
 
--- one more behind them
+-- one more after them
 one_passes : {R : Type 0} (gives : R → Got → R → Type 0) (n : ℕ) (old mid new : R) (fault : DeviceFault) → Passes gives n old mid → is_passing fault ≡ true → gives mid (Refused fault) new → Passes gives (suc n) old new
 one_passes {R = R} gives zero old mid new fault none passing step = (new, (fault, passing, subst (λ (r : R). gives r (Refused fault) new) none step), refl)
 one_passes gives (suc n) old mid new fault before passing step = (before.0, before.1, one_passes gives n before.0 mid new fault before.2 passing step)
@@ -26,7 +26,7 @@ interrupts_on takes reply n old mid new before step =
     let next : suc n ≡ n + 1 = omega arith in
     subst (λ (k : ℕ). Interrupts takes reply k old new) next (one_interrupts takes reply n old mid new before step)
 
--- ---- what a receive tells
+-- ---- the result of a receive
 
 -- a read that failed
 is_end_is : (fault : DeviceFault) → is_end fault ≡ true → fault ≡ Unmounted
@@ -57,7 +57,7 @@ first_handed {R = R} {W = W} gives old mid new frame bytes none some reads is ha
     let moved = ap {A = R} {B = OnDevice R W} (λ (r : R). record old { requests = r; kept = new.kept }) (sym same) in
     inr (none, subst (λ (xs : List ℕ). 0 < length xs) whole some, came, hands.1 ∙ (kept ∙ moved))
 
--- a link that keeps nothing
+-- a link that keeps no bytes
 pub keeps_none : (frame : List ℕ) (from until : ℕ) → until ≤ from → take (until - from) (drop from frame) ≡ []
 keeps_none frame from until past =
     let none : until - from ≡ 0 = omega (arith, past) in

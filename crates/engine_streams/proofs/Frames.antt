@@ -1,15 +1,15 @@
--- A request that is handed on in pieces.
+-- A request that is returned in pieces.
 use Rattle.std.proofs.Common.{ℕ, ◌≡◌, ◌≤◌, ◌+◌, ◌-◌, List, ◌++◌, length, take, drop, ap, sym, subst, ◌∙◌, arith}
 use Rattle.std.proofs.Math.Seq.{take-add, take-append_seam}
 use Rattle.std.proofs.lemmas.List.{drop-drop}
 
--- what comes first, and what is kept then
+-- the first piece, and what is kept afterwards
 pub first_and_rest : (bytes : List ℕ) (count whole : ℕ) → count ≤ whole → take whole bytes ≡ take count bytes ++ take (whole - count) (drop count bytes)
 first_and_rest bytes count whole within =
     let n : whole ≡ count + (whole - count) = omega (arith, within) in
     ap (λ (k : ℕ). take k bytes) n ∙ take-add count (whole - count) bytes
 
--- the first bytes of a room to which as many were copied
+-- the first bytes of a buffer to which as many were copied
 pub copied_first : (copied rest : List ℕ) (count : ℕ) → length copied ≡ count → take count (copied ++ rest) ≡ copied
 copied_first copied rest count len = subst (λ (n : ℕ). take n (copied ++ rest) ≡ copied) len (take-append_seam copied rest)
 

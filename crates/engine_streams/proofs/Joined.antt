@@ -26,7 +26,7 @@ appended : (known : Option (List ℕ)) (bytes : List ℕ) → Appends known (app
 appended None bytes = tt
 appended (Some xs) bytes = refl
 
--- and then the others
+-- followed by the others
 then_others : (old new : Option (List ℕ)) (first others : List ℕ) → Appends old new (first ++ others) → Appends (append_known old first) new others
 then_others None new first others a = tt
 then_others (Some xs) None first others a = a
@@ -70,7 +70,7 @@ whole_within (frame ∷ frames) written = by_length (ltb written (length frame))
   by_length true h = omega arith
   by_length false h = omega arith
 
--- not all that are joined
+-- not all of those that are joined
 pub whole_below : (all : List ReplyBytes) (count written whole : ℕ) → 0 < count → count ≤ length all → whole ≡ whole_in (map bytes_of (take (count - 1) all)) written → whole < length all
 whole_below all count written whole some within is =
     let front = take (count - 1) all in
@@ -80,7 +80,7 @@ whole_below all count written whole some within is =
 
 -- ---- the first of some replies
 
--- a reply stands at that place, between those before and those after it
+-- a reply at that index, with those before and those after it
 record Place (all : List ReplyBytes) (n : ℕ) : Type 0 where
   reply : ReplyBytes
   more : List ReplyBytes
@@ -97,7 +97,7 @@ place (reply ∷ all) (suc n) h = let p = place all n (omega arith) in record {
   first = ap (λ (rs : List ReplyBytes). reply ∷ rs) p.first;
 }
 
--- one by itself
+-- a single one
 pub one_alone : (old new : Streaming) (all : List ReplyBytes) (reply : ReplyBytes) (before after : List Sent) (sent : Sent) (stands : Bool) → 0 < length all → reply ≡ get_or all 0 reply → Sends old (bytes_of reply) sent new
     → after ≡ before ++ sent ∷ [] → stands ≡ not (sameb the_type sent Broken) → SendsFirst old (map bytes_of all) before new after stands
 one_alone old new [] reply before after sent stands some is s told e = absurd (omega arith)
@@ -124,7 +124,7 @@ joined_taken old new all count joined before after some within is a same told =
     let begun = all_of (take count all) count old new (length-take-le count all within) some (subst (λ (xs : List ℕ). Appends old.output new.output xs) is a) same in
     (replicate count Taken, told, (omega arith, omega arith, subst (λ (fs : List (List ℕ)). BeginsEach Sends old fs (replicate count Taken) new) (sym front) begun))
 
--- those that are joined, where that failed
+-- those that are joined, if the write failed
 pub joined_broken : (old new : Streaming) (all : List ReplyBytes) (count written whole : ℕ) (joined : List ℕ) (before mid after : List Sent) → 0 < count → count ≤ length all → joined ≡ flat_map bytes_of (take count all)
     → AppendsFirst written old.output new.output joined → new ≡ record old { output = new.output; failures = counted old.failures 1 } → whole ≡ whole_in (map bytes_of (take (count - 1) all)) written
     → mid ≡ before ++ replicate whole Taken → after ≡ mid ++ Broken ∷ [] → SendsFirst old (map bytes_of all) before new after false
@@ -142,9 +142,9 @@ joined_broken old new all count written whole joined before mid after some withi
       subst (λ (rs : List ReplyBytes). SendsEach Sends old (map bytes_of rs) sents new) (sym p.whole) (subst (λ (ss : List Sent). SendsEach Sends old (map bytes_of (take n all ++ p.reply ∷ p.more)) ss new) sents_are each),
     )
 
--- ---- one stretch after another
+-- ---- one group after another
 
--- what follows the first so many
+-- what follows the first ones
 pub stretch_of : (all : List ReplyBytes) (mid new : Streaming) (before after : List Sent) (from : ℕ) (stands known : Bool) → from ≡ length before → stands ≡ known
     → SendsFirst mid (map bytes_of (take (length all - from) (drop from all))) before new after stands → SendsFirst mid (map bytes_of (drop (length before) all)) before new after known
 stretch_of all mid new before after from stands known is e f =

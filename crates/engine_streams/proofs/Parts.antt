@@ -1,4 +1,4 @@
--- Bytes that are written part by part.
+-- Bytes that are written in parts.
 use Rattle.std.proofs.Common.{ℕ, ◌≡◌, ◌≤◌, ◌+◌, ◌-◌, List, length, take, drop, Option, Some, None, sym, subst, ap, ◌∙◌, arith}
 use Rattle.std.proofs.Math.Seq.{take-add}
 use Rattle.std.proofs.lemmas.List.{take_rest, length-drop, take_all}
@@ -6,14 +6,14 @@ use Rattle.std.proofs.KnownBytes.{Appends-trans}
 use Rattle.std.specs.Io.KnownBytes.{Appends, Keeps}
 use Rattle.engine_streams.specs.Writing.{AppendsFirst, AppendsPart}
 
--- what was appended stays where nothing is done
+-- what was appended does not change if nothing is done
 pub kept_on : (old mid new : Option (List ℕ)) (xs : List ℕ) → Appends old mid xs → Keeps mid new → Appends old new xs
 kept_on None mid new xs first kept = tt
 kept_on (Some a) None new xs first kept = absurd first
 kept_on (Some a) (Some b) None xs first kept = absurd kept
 kept_on (Some a) (Some b) (Some c) xs first kept = kept ∙ first
 
--- a part more
+-- one more part
 pub part_on : (old mid new : Option (List ℕ)) (written count all : ℕ) (bytes : List ℕ) → AppendsFirst written old mid bytes → all ≡ written + count → count ≤ length (take (length bytes - written) (drop written bytes))
     → Appends mid new (take count (take (length bytes - written) (drop written bytes))) → AppendsFirst all old new bytes
 part_on old mid new written count all bytes far is fits more =
@@ -41,6 +41,6 @@ all_kept old mid new bytes all kept = let n = length bytes in record {
   appended = subst (λ (xs : List ℕ). Appends old new xs) (sym (take_all n bytes (omega arith))) (kept_on old mid new bytes all kept);
 }
 
--- all are the first of them
+-- all of them are a first part of them
 pub whole_part : (old new : Option (List ℕ)) (bytes : List ℕ) → Appends old new bytes → AppendsPart old new bytes
 whole_part old new bytes whole = let n = length bytes in (n, subst (λ (xs : List ℕ). Appends old new xs) (sym (take_all n bytes (omega arith))) whole)

@@ -1,4 +1,4 @@
--- What a link over a stream read and wrote over a run of events.
+-- What a link over a stream read and wrote during a run of events.
 use Rattle.std.proofs.Common.{ℕ, ◌≡◌, ◌⊎◌, inl, inr, Bool, List, [], ◌∷◌, ◌++◌, take, Option, Some, None, refl, sym, subst, ap, ◌∙◌, append_assoc, append-nil}
 use Rattle.std.specs.Io.KnownBytes.{Appends, Consumes, Keeps}
 use Rattle.wire.specs.Written.{reply_bytes}
@@ -28,7 +28,7 @@ consumes_on (Some a) None c xs ys p q = absurd p
 consumes_on (Some a) (Some b) None xs ys p q = absurd q
 consumes_on (Some a) (Some b) (Some c) xs ys p q = p ∙ (ap (λ zs. xs ++ zs) q ∙ sym (append_assoc xs ys c))
 
--- the bytes that came
+-- the bytes that were received
 abbrev bytes_in : List Event → List ℕ
 bytes_in [] = []
 bytes_in (In heard ∷ events) = bytes_of heard ++ bytes_in events
@@ -60,7 +60,7 @@ heard_in [] = refl
 heard_in (Hears heard ∷ steps) = ap (λ bytes. bytes_of heard ++ bytes) (heard_in steps)
 heard_in (Works turn ∷ steps) = offered turn.offer (events_of steps) ∙ heard_in steps
 
--- The bytes heard are the first that the reader had.
+-- The received bytes are the first ones that the reader had.
 pub heard_first : (old new : Streaming) (steps : List Step) → Chain (Happens Receives Sends) old (events_of steps) new → Consumes old.input new.input (heard_of steps)
 heard_first old new steps chain = subst (λ (bytes : List ℕ). Consumes old.input new.input bytes) (heard_in steps) (consumed old new (events_of steps) chain)
 
@@ -81,14 +81,14 @@ output_stays old new (Piece bytes) r = r.1
 output_stays old new Ended r = r.2
 output_stays old new Broke r = r.1
 
--- what was kept, and then some bytes
+-- what was kept, followed by some bytes
 kept_then : (a b c : Option (List ℕ)) (xs : List ℕ) → Keeps a b → Appends b c xs → Appends a c xs
 kept_then None b c xs kept more = tt
 kept_then (Some a) None c xs kept more = absurd kept
 kept_then (Some a) (Some b) None xs kept more = absurd more
 kept_then (Some a) (Some b) (Some c) xs kept more = more ∙ ap (λ zs. zs ++ xs) kept
 
--- nothing passes after a reply that broke the link
+-- there is no traffic after a reply that broke the link
 abbrev pub BreaksLast : List Event → Type 0
 BreaksLast [] = Unit {0}
 BreaksLast (In heard ∷ events) = BreaksLast events
@@ -114,11 +114,11 @@ breaks_last kept [] rest paces = tt
 breaks_last kept (Hears heard ∷ steps) rest paces = breaks_last (kept ++ bytes_of heard) steps rest paces.2
 breaks_last kept (Works turn ∷ steps) rest paces = last_turn turn.offer turn.destroyed steps paces.3 (breaks_last paces.0 steps rest paces.4)
 
--- The writer was given the replies that were taken, and the first bytes of one that broke the link.
+-- The writer was given the replies that were taken, and some first part of one that broke the link.
 abbrev pub WritesSome : Streaming → List Event → Streaming → Type 0
 WritesSome old events new = (n : ℕ) × Appends old.output new.output (taken_in events ++ take n (broken_in events))
 
--- a reply more before the others
+-- one more reply before the others
 taken_first : (old mid new : Option (List ℕ)) (frame : List ℕ) (events : List Event) (n : ℕ) → Appends old mid frame → Appends mid new (taken_in events ++ take n (broken_in events))
     → Appends old new ((frame ++ taken_in events) ++ take n (broken_in events))
 taken_first old mid new frame events n first rest =

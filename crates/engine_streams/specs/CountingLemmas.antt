@@ -5,7 +5,7 @@ use Rattle.engine.specs.declared.links.Sent.{Sent}
 use Rattle.engine.specs.declared.links.Sent.TheVariants as sent
 use Rattle.engine_streams.specs.Streams.{Streaming, Receives, Sends}
 
--- no failure, no count
+-- without failures the count does not change
 none_more : (n : ℕ) → n ≡ counted n 0
 none_more n = omega arith
 

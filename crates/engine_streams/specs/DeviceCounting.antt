@@ -6,7 +6,7 @@ use Rattle.engine.specs.declared.links.Sent.TheVariants as sent
 use Rattle.engine_streams.specs.declared.device.DeviceFault.{DeviceFault}
 use Rattle.engine_streams.specs.Device.{Got, OnDevice, Receives, Sends}
 
--- no failure, no count
+-- without failures the count does not change
 none_more : (n : ℕ) → n ≡ counted n 0
 none_more n = omega arith
 

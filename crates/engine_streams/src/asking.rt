@@ -1,20 +1,21 @@
-//! When a read asks for a while before it waits.
+//! When a read polls for a while before it blocks.
 
-/// How many reads in a row wait at once, after one that asked in vain. After each further one they are twice as many.
+/// How many reads in a row block at once after one that polled in vain. After each further one there are twice as many.
 const PAUSE: u8 = 15;
 
-/// The rule by which a read asks again and again for a while before it waits: to sleep and to be woken takes longer than most clients take
-/// until their next request. A slow client, or one that shares the only processor, costs one such try in 256 reads before long.
+/// The rule by which a read polls for a while before it blocks: being put to sleep and woken takes longer than most
+/// clients take until their next request. A client that is slow, or shares the only processor, soon costs only one vain
+/// attempt in 256 reads.
 #[derive(Clone, Copy)]
 pub(crate) struct Asking {
-    /// So many reads more wait at once.
+    /// How many more reads block at once.
     waiting: u8,
-    /// How many do after the next one that asks in vain.
+    /// How many will do so after the next one that polls in vain.
     pause: u8,
 }
 
 impl Asking {
-    /// The first read asks.
+    /// The first read polls.
     pub(crate) fn new() -> Asking {
         Asking {
             waiting: 0,
@@ -22,7 +23,7 @@ impl Asking {
         }
     }
 
-    /// Whether the next read asks before it waits.
+    /// Whether the next read polls before it blocks.
     pub(crate) fn begins(&mut self) -> bool {
         if self.waiting == 0 {
             return true;
@@ -31,14 +32,14 @@ impl Asking {
         false
     }
 
-    /// Something came while it asked. What was there at once says nothing of whether asking pays.
+    /// Something came while it polled. If it was already there, that does not show that polling pays.
     pub(crate) fn came(&mut self, at_once: bool) {
         if !at_once {
             self.pause = PAUSE;
         }
     }
 
-    /// It asked in vain.
+    /// It polled in vain.
     pub(crate) fn in_vain(&mut self) {
         self.waiting = self.pause;
         self.pause = self.pause.saturating_mul(2);

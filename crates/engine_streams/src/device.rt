@@ -1,26 +1,26 @@
-//! The kernel's FUSE device, as a link needs it.
+//! The kernel's FUSE device, as a link uses it.
 
 ghost use Rattle.std.specs.Prelude.{◌≡◌, ◌<◌, ◌≤◌, ℕ, List, length, IfOk, Result};
 ghost use Rattle.engine_streams.specs.Device.{got, is_end, is_passing, Got};
 ghost use Rattle.engine_streams.specs.declared.device.DeviceFault.{DeviceFault};
 
-/// Why a call of the device did nothing.
+/// Why a call on the device had no effect.
 #[derive(Clone, Copy, Debug, PartialEq, Eq)]
 pub enum DeviceFault {
     /// Nobody waits for that request any more (`ENOENT`).
     Gone,
-    /// A signal came first (`EINTR`).
+    /// It was interrupted by a signal (`EINTR`).
     Interrupted,
-    /// Nothing is there now (`EAGAIN`).
+    /// There is nothing to read now (`EAGAIN`).
     Nothing,
-    /// Nothing is mounted any more (`ENODEV`).
+    /// The file system is not mounted any more (`ENODEV`).
     Unmounted,
-    /// Another error number of the system.
+    /// Another error number.
     Other(i32),
 }
 
 impl DeviceFault {
-    /// Whether another read is made after one that failed so.
+    /// Whether the read is made again after this failure.
     pub(crate) fn is_passing(self) -> bool
         ensures { result ≡ is_passing self }
     {
@@ -30,7 +30,7 @@ impl DeviceFault {
         }
     }
 
-    /// Whether nothing is mounted any more.
+    /// Whether the file system is not mounted any more.
     pub(crate) fn is_end(self) -> bool
         ensures { result ≡ is_end self }
     {
@@ -44,7 +44,7 @@ impl DeviceFault {
     }
 }
 
-/// By the system's error number.
+/// From the system's error number.
 impl From<i32> for DeviceFault {
     ghost use Rattle.engine_streams.specs.Device.{Means};
 
@@ -61,12 +61,13 @@ impl From<i32> for DeviceFault {
     }
 }
 
-/// Where requests come from, one whole request a read.
+/// The source of requests: each read returns one whole request.
 pub trait ReadRequest {
-    /// What a read may tell, and what the device is then.
+    /// What a read may return, and which state the device may be in afterwards.
     ghost gives: { Self → Got → Self → Type 0 };
 
-    /// Reads one request into room for the longest frame. It answers how many bytes that request has, at least one, or why there is none.
+    /// Reads one request into a buffer with room for the longest frame. It returns how many bytes the request has, at
+    /// least one, or why there is none.
     fn read_request(&mut self, room: &mut [u8]) -> Result<usize, DeviceFault>
         requires { length room.old ≡ 69632 }
         ensures some { IfOk result (λ n. 0 < n) }
@@ -74,18 +75,18 @@ pub trait ReadRequest {
         ensures len { length room.new ≡ length room.old }
         ensures gives { gives self.old (got result room.new) self.new };
 
-    /// Whether the request that came last had been there before it was asked for, so that more may wait.
+    /// Whether the last request was already there before it was asked for, so that more may be waiting.
     fn was_waiting(&self) -> bool {
         false
     }
 }
 
-/// Where replies go, one whole reply a write.
+/// The destination of replies: each write takes one whole reply.
 pub trait WriteReply {
-    /// What a write of a reply may tell, and what the device is then.
+    /// What a write of a reply may return, and which state the device may be in afterwards.
     ghost takes: { Self → List ℕ → Result ℕ DeviceFault → Self → Type 0 };
 
-    /// Writes one reply. It answers how many of its bytes were taken, or why none was.
+    /// Writes one reply. It returns how many of its bytes were taken, or why none was.
     fn write_reply(&mut self, reply: &[u8]) -> Result<usize, DeviceFault>
         ensures within { IfOk result (λ n. n ≤ length reply.now) }
         ensures takes { takes self.old reply.now result self.new };
@@ -98,7 +99,7 @@ pub struct Device<R: ReadRequest + Drop, W: WriteReply + Drop> {
     pub replies: W,
 }
 
-/// Stands where a link has one end alone: no request comes, and nobody waits for a reply.
+/// The missing end of a link that has only one: no request comes, and nobody waits for a reply.
 #[derive(Clone, Copy)]
 pub struct NoDevice;
 

@@ -10,15 +10,15 @@ use std::alloc::{AllocError, Global};
 use std::marker::Model;
 use wire::MAX_FRAME_LEN;
 
-/// A link over a device that hands out one whole request a read, and takes one whole reply a write. A reply that nobody waits for any more
-/// is untaken, and the link goes on.
+/// A link over a device where each read returns one whole request, and each write takes one whole reply. So nothing is
+/// joined, held back or cut. A reply that nobody waits for any more is untaken, and the link goes on.
 #[derive(Drop)]
 pub struct DeviceLink<R: ReadRequest + Drop, W: WriteReply + Drop> {
     requests: R,
     replies: W,
-    /// Where a request is read if the room for it is shorter than the longest frame.
+    /// The buffer for a request if the caller's is shorter than the longest frame.
     frame: Vec<u8>,
-    /// Which of its bytes were not handed on yet.
+    /// The bytes of it that were not returned yet start here.
     from: usize,
     until: usize,
     /// How many of its calls have failed.
@@ -37,7 +37,7 @@ impl<R: ReadRequest + Drop, W: WriteReply + Drop> Model for DeviceLink<R, W> {
     ghost view = { λ l. record { requests = l.requests; replies = l.replies; kept = take (l.until - l.from) (drop l.from l.frame.items); failures = l.failures } };
 }
 
-/// Reads a request. A read that a signal interrupts, that finds nothing, or whose request was given up meanwhile is made again.
+/// Reads a request. A read that is interrupted by a signal, finds nothing, or whose request was given up is made again.
 fn read_again<R: ReadRequest>(requests: &mut R, room: &mut [u8]) -> Result<usize, DeviceFault>
     requires { length room.old ≡ 69632 }
     ensures some { IfOk result (λ n. 0 < n) }
@@ -58,7 +58,7 @@ fn read_again<R: ReadRequest>(requests: &mut R, room: &mut [u8]) -> Result<usize
     requests.read_request(room)
 }
 
-/// Writes a reply, by a write of its own. One that a signal interrupts is made again.
+/// Writes a reply with one write. If that is interrupted by a signal, it is made again.
 fn write_again<W: WriteReply>(replies: &mut W, reply: &[u8]) -> Result<usize, DeviceFault>
     ensures within { IfOk result (λ n. n ≤ length reply.now) }
     ensures writes { Writes W.takes replies.old reply.now result replies.new }
@@ -74,7 +74,7 @@ fn write_again<W: WriteReply>(replies: &mut W, reply: &[u8]) -> Result<usize, De
 }
 
 impl<R: ReadRequest + Drop, W: WriteReply + Drop> DeviceLink<R, W> {
-    /// A link on which nothing has passed.
+    /// A link without traffic so far.
     pub fn new(alloc: Global, requests: R, replies: W) -> Result<DeviceLink<R, W>, AllocError>
         ensures { IfOk result (λ link. link ≡ unused requests replies) }
     {
@@ -90,7 +90,7 @@ impl<R: ReadRequest + Drop, W: WriteReply + Drop> DeviceLink<R, W> {
         })
     }
 
-    /// Hands on what is kept, as much as the room takes.
+    /// Returns what is kept, at most as much as fits.
     fn hand_on(&mut self, room: &mut [u8]) -> usize
         ensures within { result ≤ length room.new }
         ensures len { length room.new ≡ length room.old }
@@ -103,7 +103,7 @@ impl<R: ReadRequest + Drop, W: WriteReply + Drop> DeviceLink<R, W> {
         count
     }
 
-    /// What a receive tells of a read that failed.
+    /// The result of a receive after a read that failed.
     fn failed(&mut self, fault: DeviceFault) -> Received
         ensures { Fails self.old fault result self.new }
     {
@@ -114,7 +114,7 @@ impl<R: ReadRequest + Drop, W: WriteReply + Drop> DeviceLink<R, W> {
         Received::Broken
     }
 
-    /// Receives into a room that is shorter than the longest frame, where nothing is kept.
+    /// Receives into a buffer that is shorter than the longest frame, when nothing is kept.
     fn receive_short(&mut self, room: &mut [u8]) -> Received
         requires none { self.old.kept ≡ [] }
         ensures within { IsWithin result (length room.new) }
@@ -148,6 +148,7 @@ impl<R: ReadRequest + Drop, W: WriteReply + Drop> LinkIn for DeviceLink<R, W> {
         if room.len() < MAX_FRAME_LEN {
             return self.receive_short(room);
         }
+        // No more room than that is offered: the kernel fills a BATCH_FORGET up to whatever room it is given.
         match read_again(&mut self.requests, &mut room[..MAX_FRAME_LEN]) {
             Ok(count) => Received::Bytes(count),
             Err(fault) => self.failed(fault),
@@ -176,6 +177,7 @@ impl<R: ReadRequest + Drop, W: WriteReply + Drop> LinkOut for DeviceLink<R, W> {
         }
         self.failures = self.failures.saturating_add(1);
         match told {
+            // Nobody waits for the reply since the caller was killed, or the request was given up.
             Err(DeviceFault::Gone) => Sent::Untaken,
             Ok(_) | Err(_) => Sent::Broken,
         }

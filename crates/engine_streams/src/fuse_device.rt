@@ -1,4 +1,4 @@
-//! The kernel's FUSE device, which this process has open.
+//! The kernel's FUSE device that is open in this process.
 
 ghost use Rattle.std.specs.Prelude.{◌≡◌, ◌<◌, ◌≤◌, length, pos, IfOk, IfSome};
 
@@ -8,7 +8,7 @@ use crate::device::{DeviceFault, ReadRequest, WriteReply};
 /// The descriptor of standard input.
 const STANDARD_INPUT: i32 = 0;
 
-/// How often one read asks at most before it waits: for some 60 microseconds.
+/// How often one read polls at most before it blocks: for about 60 microseconds.
 const ASKED: u32 = 200;
 
 /// How many bytes a call moved, or why it failed.
@@ -21,7 +21,8 @@ fn told(moved: isize) -> Result<usize, DeviceFault>
     }
 }
 
-/// Reads once from what is open under a descriptor. Where it has no more bytes, which the kernel's device never tells, it is as if it was unmounted.
+/// One read from a descriptor. If there are no more bytes, which the kernel's device never reports, it is as if it was
+/// unmounted.
 fn read(descriptor: i32, room: &mut [u8]) -> Result<usize, DeviceFault>
     ensures some { IfOk result (λ n. 0 < n) }
     ensures within { IfOk result (λ n. n ≤ length room.new) }
@@ -34,18 +35,18 @@ fn read(descriptor: i32, room: &mut [u8]) -> Result<usize, DeviceFault>
     }
 }
 
-/// The requests of the device that stands on standard input.
+/// The requests of the device that is open as standard input.
 #[derive(Drop)]
 pub struct DeviceRequests {
-    /// Whether a read of the device waits, once that was set.
+    /// Whether a read of the device blocks, if that was set already.
     waits: Option<bool>,
     asking: Asking,
-    /// Whether the request that came last was there as it was asked for first.
+    /// Whether the last request was already there at the first attempt.
     was_waiting: bool,
 }
 
 impl DeviceRequests {
-    /// Nothing was read yet.
+    /// A reader that has read nothing yet.
     pub fn new() -> DeviceRequests {
         DeviceRequests {
             waits: None,
@@ -54,7 +55,8 @@ impl DeviceRequests {
         }
     }
 
-    /// Sets whether a read waits. It stays so: a client that is fast costs no such call, and a slow one neither.
+    /// Sets whether a read blocks. The setting remains for later reads, so neither a fast client nor a slow one costs a
+    /// further call.
     fn set_waits(&mut self, waits: bool) {
         if self.waits != Some(waits) {
             let _ = os::set_nonblocking(STANDARD_INPUT, !waits);
@@ -62,7 +64,7 @@ impl DeviceRequests {
         }
     }
 
-    /// Asks for a request, without waiting, for a while. None says that none came.
+    /// Polls for a request for a while. None means that none came.
     fn ask(&mut self, room: &mut [u8]) -> Option<Result<usize, DeviceFault>>
         ensures some { IfSome result (λ told. IfOk told (λ n. 0 < n)) }
         ensures within { IfSome result (λ told. IfOk told (λ n. n ≤ length room.new)) }
@@ -101,7 +103,8 @@ impl ReadRequest for DeviceRequests {
     }
 }
 
-/// Where replies go to the device that stands on standard input.
+/// The destination of replies to the device that is open as standard input. A write to it never blocks, whatever is set
+/// for reads.
 #[derive(Clone, Copy)]
 pub struct DeviceReplies;
 

@@ -1,4 +1,4 @@
-//! A writer that holds small writes back until it is told to hand them on.
+//! A writer that holds small writes back until it is flushed.
 
 ghost use Rattle.std.specs.Prelude.{◌≡◌, [], OnOk};
 ghost use Rattle.std.specs.Io.KnownBytes.{Keeps};
@@ -11,9 +11,9 @@ use std::io;
 use std::io::Write;
 use wire::Window;
 
-/// A writer that keeps what it is given, up to 65,536 bytes, and writes it by one call once it is flushed. What takes more than 16,384
-/// bytes, or finds no room, is written right behind what was kept. Its room never gets shorter: to let bytes go costs nothing, where the
-/// library's buffered writer drops them one by one.
+/// A writer that keeps up to 65,536 bytes of what it is given, and writes them with one call when it is flushed. A
+/// write of more than 16,384 bytes, or for which there is no room, is made directly after what was kept. Its buffer
+/// never gets shorter, so removing bytes costs nothing; the library's buffered writer removes them one by one.
 #[derive(Drop)]
 pub struct Holding<W: Write> {
     writer: W,
@@ -21,7 +21,7 @@ pub struct Holding<W: Write> {
 }
 
 impl<W: Write> Holding<W> {
-    /// A writer that holds nothing back yet. It takes no memory.
+    /// A writer that holds nothing back yet. It does not allocate.
     pub fn new(alloc: Global, writer: W) -> Holding<W>
         ensures { Keeps (W.contents writer) (contents_of W.contents result) }
     {
@@ -31,14 +31,14 @@ impl<W: Write> Holding<W> {
         }
     }
 
-    /// Where it writes.
+    /// The writer below.
     pub fn writer(&self) -> &W
         ensures { result.now ≡ self.now.writer }
     {
         &self.writer
     }
 
-    /// Writes what it holds. Where that fails it keeps what was not written.
+    /// Writes what it holds. If that fails, it keeps what was not written.
     fn hand_on(&mut self) -> io::Result<()>
         ensures none { OnOk result (self.new.held ≡ []) }
         ensures kept { Keeps (contents_of W.contents self.old) (contents_of W.contents self.new) }

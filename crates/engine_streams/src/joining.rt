@@ -1,4 +1,4 @@
-//! Replies that are joined, to be written at once.
+//! Joining replies, so that they are written with one call.
 
 ghost use Rattle.std.specs.Prelude.{◌≡◌, ◌≤◌, ◌+◌, ◌++◌, length, map, replicate, take, if◌then◌else◌, vec_len, vec_capacity};
 ghost use Rattle.std.specs.List.{flat_map};
@@ -8,13 +8,14 @@ ghost use Rattle.engine_streams.specs.Joining.{whole_in};
 
 use engine::{ReplyBytes, Sent};
 
-/// How many bytes a reply has at most that is joined with others, or held back for them.
+/// The maximum length of a reply that is joined with others, or held back for them: copying it costs less than a call
+/// of the system.
 pub(crate) const SMALL: usize = 16_384;
 
-/// How many bytes are joined at most.
+/// The maximum number of bytes that are joined.
 pub(crate) const JOINED: usize = 65_536;
 
-/// Joins one reply more, if it is small, fits beside the others and finds memory.
+/// Joins one more reply, if it is small, fits with the others and memory is not refused.
 fn join_one(joined: &mut Vec<u8>, bytes: &[u8]) -> bool
     ensures { joined.new.items ≡ (if result then joined.old.items ++ bytes.now else joined.old.items) }
 {
@@ -23,7 +24,7 @@ fn join_one(joined: &mut Vec<u8>, bytes: &[u8]) -> bool
         && joined.extend_from_slice(bytes).is_ok()
 }
 
-/// Joins the first of these replies, up to one that is large, does not fit or finds no memory, and says how many.
+/// Joins the first of these replies, up to one that is large, does not fit or is refused memory, and returns how many.
 pub fn join(frames: &[ReplyBytes], joined: &mut Vec<u8>) -> usize
     ensures within { result ≤ length frames.now }
     ensures bytes { joined.new.items ≡ flat_map bytes_of (take result frames.now) }
@@ -37,7 +38,7 @@ pub fn join(frames: &[ReplyBytes], joined: &mut Vec<u8>) -> usize
     frames.len()
 }
 
-/// How many of these replies lie whole in the first so many bytes of all of them.
+/// How many of these replies are complete in the first `written` bytes of all of them.
 pub fn whole_in(frames: &[ReplyBytes], written: usize) -> usize
     ensures { result ≡ whole_in (map bytes_of frames.now) written }
 {
@@ -51,7 +52,7 @@ pub fn whole_in(frames: &[ReplyBytes], written: usize) -> usize
     frames.len()
 }
 
-/// So many replies more were taken.
+/// That many more replies were taken.
 pub fn push_taken(sent: &mut Vec<Sent>, count: usize)
     requires room { vec_len sent.old + count ≤ vec_capacity sent.old }
     ensures items { sent.new.items ≡ sent.old.items ++ replicate count Taken }

@@ -1,4 +1,4 @@
-//! Links over streams, as sockets and pipes, and over the kernel's FUSE device.
+//! Links over streams such as sockets and pipes, and over the kernel's FUSE device.
 #![tactic(auto)]
 
 mod asking;

@@ -17,21 +17,21 @@ use std::io;
 use std::io::{ErrorKind, Read, Write};
 use std::marker::Model;
 
-/// How many replies in a row a writer may hold back: so one waits for the work on so many requests at most.
+/// How many replies in a row a writer may hold back. So a reply waits for the work on at most that many requests.
 const HELD_BACK: u8 = 7;
 
-/// A link that takes what its reader has, as it comes, and writes each reply whole. Small replies that are offered together it joins.
-/// Where more requests are at hand, small replies are left to the writer, which may hold them back; they are handed on with a later one,
-/// and before the next read.
+/// A link that takes what its reader has, as it comes, and writes each reply completely. Small replies that are offered
+/// together are joined. If more requests are available, small replies are left to the writer, which may hold them back;
+/// they are sent with a later one, and at the latest before the next read.
 #[derive(Drop)]
 pub struct StreamLink<R: Read, W: Write> {
     reader: R,
     writer: W,
-    /// The replies that are joined. Between two calls it is only room.
+    /// The replies that are joined. Between two calls it is only an empty buffer.
     joined: Vec<u8>,
-    /// Whether bytes of a further request are at hand.
+    /// Whether bytes of another request are available.
     has_more: bool,
-    /// How many replies the writer was given, and not told to hand on.
+    /// How many replies the writer was given and may still hold back.
     held_back: u8,
     /// How many of its calls have failed.
     failures: u64,
@@ -45,7 +45,7 @@ impl<R: Read, W: Write> Model for StreamLink<R, W> {
     ghost view = { λ l. record { input = R.remaining l.reader; output = W.contents l.writer; failures = l.failures } };
 }
 
-/// Reads what is there, as much as the room takes. A read that a signal interrupts is made again.
+/// Reads what is there, at most as much as fits. A read that is interrupted by a signal is made again.
 fn read_there<R: Read>(reader: &mut R, room: &mut [u8]) -> io::Result<usize>
     ensures within { IfOk result (λ n. n ≤ length room.new) }
     ensures bytes { ReadConsumes (R.remaining reader.old) (R.remaining reader.new) result room.new }
@@ -64,7 +64,7 @@ fn read_there<R: Read>(reader: &mut R, room: &mut [u8]) -> io::Result<usize>
 }
 
 impl<R: Read, W: Write> StreamLink<R, W> {
-    /// A link on which nothing has passed. It takes no memory before replies are joined.
+    /// A link without traffic so far. It does not allocate before replies are joined.
     pub fn new(alloc: Global, reader: R, writer: W) -> StreamLink<R, W>
         ensures { result ≡ unused (R.remaining reader) (W.contents writer) }
     {
@@ -78,7 +78,7 @@ impl<R: Read, W: Write> StreamLink<R, W> {
         }
     }
 
-    /// Writes one reply, and has it handed on unless it may be held back.
+    /// Writes one reply, and flushes the writer unless the reply may be held back.
     fn write(&mut self, frame: &[u8]) -> io::Result<()>
         ensures whole { OnOk result (Sends self.old frame.now Taken self.new) }
         ensures part { OnErr result (AppendsPart self.old.output self.new.output frame.now × (self.new ≡ record self.old { output = self.new.output })) }
@@ -91,7 +91,7 @@ impl<R: Read, W: Write> StreamLink<R, W> {
         write_flushed(&mut self.writer, frame)
     }
 
-    /// Has the writer hand on what it may have held back.
+    /// Flushes what the writer may have held back.
     fn hand_on(&mut self) -> io::Result<()>
         ensures { Keeps self.old.output self.new.output × (self.new ≡ record self.old { output = self.new.output }) }
     {
@@ -102,17 +102,18 @@ impl<R: Read, W: Write> StreamLink<R, W> {
         self.writer.flush()
     }
 
-    /// Reads what is there, once nothing is held back.
+    /// Reads what is there, after flushing what was held back.
     fn read(&mut self, room: &mut [u8]) -> io::Result<usize>
         ensures within { IfOk result (λ n. n ≤ length room.new) }
         ensures bytes { ReadConsumes self.old.input self.new.input result room.new }
         ensures same { Keeps self.old.output self.new.output × (self.new ≡ record self.old { input = self.new.input; output = self.new.output }) }
     {
+        // The client may be waiting for these replies before it sends more.
         self.hand_on()?;
         read_there(&mut self.reader, room)
     }
 
-    // Offers the first of these replies: those that can be joined, or one by itself. False says that the link broke.
+    // Offers the first of these replies: those that can be joined, or a single one. False means that the link broke.
     fn send_first(&mut self, frames: &[ReplyBytes], sent: &mut Vec<Sent>) -> bool
         requires some { 0 < length frames.now }
         requires room { vec_len sent.old + length frames.now ≤ vec_capacity sent.old }
@@ -132,7 +133,7 @@ impl<R: Read, W: Write> StreamLink<R, W> {
             }
             Err(fault) => {
                 self.failures = self.failures.saturating_add(1);
-                // Where all was written and not handed on, the last is not known to be taken.
+                // If everything was written but the flush failed, it is not known whether the last one was taken.
                 push_taken(sent, whole_in(&frames[..count - 1], fault.written));
                 sent.push_reserved(Sent::Broken);
                 false
@@ -142,7 +143,7 @@ impl<R: Read, W: Write> StreamLink<R, W> {
 }
 
 impl<R: Read + Drop, W: Write> StreamLink<R, W> {
-    /// Hands the writer back.
+    /// Returns the writer.
     pub fn into_writer(self) -> W
         ensures { W.contents result ≡ self.output }
     {

@@ -1,4 +1,4 @@
-//! A socket that is asked again and again for a while before it is waited on.
+//! A socket that is polled for a while before a read blocks.
 
 ghost use Rattle.std.specs.Prelude.{IfSome};
 ghost use Rattle.std.specs.Io.{ReadsAtMost};
@@ -8,27 +8,28 @@ use std::io;
 use std::io::{ErrorKind, Read};
 use std::os::unix::net::UnixStream;
 
-/// How often one read asks at most before it waits: for some 30 microseconds.
+/// How often one read polls at most before it blocks: for about 30 microseconds.
 const ASKED: u32 = 128;
 
-/// Reads what comes over a socket. A client whose next request comes within some microseconds is not slept for.
+/// Reads from a socket. For a client whose next request comes within some microseconds the thread does not sleep.
 ///
-/// Between two reads the socket waits, so who writes to it meanwhile need not know.
+/// Between two reads the socket is in blocking mode, so that a thread that writes to it does not have to care. The same
+/// thread must write: with several threads one could write while another polls.
 #[derive(Drop)]
 pub struct Polling<'a> {
     stream: &'a UnixStream,
     asking: Asking,
 }
 
-/// What came while it was asked.
+/// What came while it was polled.
 #[derive(Drop)]
 struct Came {
     read: io::Result<usize>,
-    /// Whether it was there as it was asked first.
+    /// Whether it was already there at the first attempt.
     at_once: bool,
 }
 
-/// Asks for what is there, without waiting, so often at most. None says that nothing came.
+/// Polls for what is there, at most that often. None means that nothing came.
 fn ask(stream: &UnixStream, room: &mut [u8], times: u32) -> Option<Came>
     ensures { IfSome result (λ came. ReadsAtMost came.read room.new) }
 {
@@ -48,7 +49,7 @@ fn ask(stream: &UnixStream, room: &mut [u8], times: u32) -> Option<Came>
 }
 
 impl<'a> Polling<'a> {
-    /// Reads of that socket, the first of which asks.
+    /// Reads from that socket. The first one polls.
     pub fn new(stream: &'a UnixStream) -> Polling<'a> {
         Polling {
             stream,
@@ -56,7 +57,7 @@ impl<'a> Polling<'a> {
         }
     }
 
-    /// Asks for a while. None says that nothing came, or that the socket cannot be asked.
+    /// Polls for a while. None means that nothing came, or that the socket cannot be polled.
     fn poll(&self, room: &mut [u8]) -> Option<Came>
         ensures { IfSome result (λ came. ReadsAtMost came.read room.new) }
     {
@@ -64,12 +65,12 @@ impl<'a> Polling<'a> {
             return None;
         }
         let asked = ask(self.stream, room, ASKED);
-        // It was just set, so it can be set back.
+        // Blocking mode can be set back, since it was just changed.
         let _ = self.stream.set_nonblocking(false);
         asked
     }
 
-    /// Waits until something comes.
+    /// Blocks until something comes.
     fn wait(&self, room: &mut [u8]) -> io::Result<usize>
         ensures { ReadsAtMost result room.new }
     {

@@ -1,4 +1,4 @@
-//! Writing of which it is known what stands there, even where it fails.
+//! Writing in such a way that it is known what was written, even if it fails.
 
 ghost use Rattle.std.specs.Prelude.{◌≡◌, ◌≤◌, length, take, IfErr, OnOk};
 ghost use Rattle.std.specs.Io.KnownBytes.{Appends, Keeps};
@@ -10,13 +10,13 @@ use std::io::{ErrorKind, Write};
 /// A write that failed.
 #[derive(Drop)]
 pub struct WriteFault {
-    /// How many of its bytes were written, and no others.
+    /// How many of its bytes were written, and no others were.
     pub written: usize,
     pub error: io::Error,
 }
 
-/// Writes all of the bytes. Where that fails, it says how many were written. It writes part by part, since `write_all` says
-/// nothing of what stands there after an error. A write that a signal interrupts is made again.
+/// Writes all of the bytes. If that fails, the error says how many were written. It makes the writes itself, since
+/// `write_all` does not say what was written before an error. A write that is interrupted by a signal is made again.
 pub fn write_parts<W: Write>(writer: &mut W, bytes: &[u8]) -> Result<(), WriteFault>
     ensures whole { OnOk result (Appends (W.contents writer.old) (W.contents writer.new) bytes.now) }
     ensures part { IfErr result (λ fault. AppendsFirst fault.written (W.contents writer.old) (W.contents writer.new) bytes.now) }
@@ -43,7 +43,8 @@ pub fn write_parts<W: Write>(writer: &mut W, bytes: &[u8]) -> Result<(), WriteFa
     Err(WriteFault { written, error })
 }
 
-/// Writes all of the bytes, which the writer may hold back. Where that fails, the first of them may have been written, and nothing else.
+/// Writes all of the bytes, which the writer may hold back. If that fails, some first part of them may have been
+/// written, and nothing else.
 pub fn write_ahead<W: Write>(writer: &mut W, bytes: &[u8]) -> io::Result<()>
     ensures whole { OnOk result (Appends (W.contents writer.old) (W.contents writer.new) bytes.now) }
     ensures part { AppendsPart (W.contents writer.old) (W.contents writer.new) bytes.now }
@@ -54,7 +55,7 @@ pub fn write_ahead<W: Write>(writer: &mut W, bytes: &[u8]) -> io::Result<()>
     }
 }
 
-/// Writes all of the bytes and hands them on. Where that fails, it says how many were written.
+/// Writes all of the bytes and flushes them. If that fails, the error says how many were written.
 pub fn write_counted<W: Write>(writer: &mut W, bytes: &[u8]) -> Result<(), WriteFault>
     ensures whole { OnOk result (Appends (W.contents writer.old) (W.contents writer.new) bytes.now) }
     ensures part { IfErr result (λ fault. AppendsFirst fault.written (W.contents writer.old) (W.contents writer.new) bytes.now) }
@@ -69,7 +70,8 @@ pub fn write_counted<W: Write>(writer: &mut W, bytes: &[u8]) -> Result<(), Write
     }
 }
 
-/// Writes all of the bytes and hands them on. Where that fails, the first of them may have been written, and nothing else.
+/// Writes all of the bytes and flushes them. If that fails, some first part of them may have been written, and nothing
+/// else.
 pub fn write_flushed<W: Write>(writer: &mut W, bytes: &[u8]) -> io::Result<()>
     ensures whole { OnOk result (Appends (W.contents writer.old) (W.contents writer.new) bytes.now) }
     ensures part { AppendsPart (W.contents writer.old) (W.contents writer.new) bytes.now }

@@ -1,4 +1,4 @@
--- What a worker has done goes on by what it does next.
+-- Extending what a worker has done.
 use Rattle.std.proofs.Common.{◌≡◌, ◌∙◌, ℕ, List, [], ◌∷◌, ◌++◌, Option, Some, None, sym, ap, ap₂, subst, subst₂}
 use Rattle.crossbeam_channel.specs.Claims.{view, IsSeatAt}
 use Rattle.crossbeam_channel.specs.Ends.{sends_on, receives_on}
@@ -26,7 +26,7 @@ module _ {C D : Type 0} (does : Behaviour C D) (settings : Settings) (number : �
   abbrev pub Works : Standing C D → Standing C D → Type 0
   Works old new = (settled : List (Option Settlement)) × WorkedAll does settings number old settled new
 
-  -- one job more
+  -- one more job
   pub works_on : (settings' : Settings) (number' : ℕ) (old mid new : Standing C D) (one : Option Settlement) → settings' ≡ settings → number' ≡ number → Works old mid → Worked does settings' number' mid one new → Works old new
   works_on settings' number' old mid new one s n all next = (
     all.0 ++ one ∷ [],
@@ -56,14 +56,14 @@ module _ {C D : Type 0} (does : Behaviour C D) (settings : Settings) (number : �
         works = chain_append (Worked does settings number) (newcomer number given h.dirs h.share) mid new h.settled next.0 h.works on;
       }
 
-  -- what it leaves says the same
+  -- what is left of it says the same
   pub worked_as : (number' : ℕ) (given : C) (taken taken' : Hand Job) (put put' : Outbox) (by : Means C D) → number' ≡ number → taken' ≡ taken → put' ≡ put
       → HasWorked does settings number given (standing taken put by) → HasWorked does settings number' given (standing taken' put' by)
   worked_as number' given taken taken' put put' by n t p h =
       subst (λ (k : ℕ). HasWorked does settings k given (standing taken' put' by)) (sym n)
       (subst₂ (λ (v : Hand Job) (l : Outbox). HasWorked does settings number given (standing v l by)) (sym t) (sym p) h)
 
--- what a thread did stands under its own index
+-- what a thread did has its own index
 index_one : {C D : Type 0} (does : Behaviour C D) (settings : Settings) (from : ℕ) (job : Job) (old new : Standing C D) (settled : Option Settlement) → AnswersJob does settings from job old settled new → new.means.on_table.by ≡ old.means.on_table.by
 index_one does settings from job old new settled a = ap (λ (o : OnTable). o.by) a.puts.on_table ∙ a.meets.gains.by_is
 
@@ -80,7 +80,7 @@ index_last does settings None calls share passes handed_back on_table a = ap (λ
 index_last does settings (Some job) calls share passes handed_back on_table a =
     index_one does settings passes.number job (newcomer passes.number calls a.dirs share) (standing (view passes.job_pass) (outbox (view passes.reply_pass) handed_back) (means a.served a.gained on_table)) a.settled a.answers
 
--- a worker at these queues that began so
+-- a worker at these queues that began like this
 pub record Stands {C D : Type 0} (does : Behaviour C D) (jobs : JobQueue) (replies : ReplyQueue) (settings : Settings) (number : ℕ) (given : C) (worker : Worker) (by : Means C D) : Type 0 where
   pub takes_from : receives_on worker.jobs ≡ jobs
   pub puts_into : sends_on worker.replies ≡ replies
@@ -110,7 +110,7 @@ module _ {C D : Type 0} (does : Behaviour C D) (jobs : JobQueue) (replies : Repl
   stands_as worker worker' served served' share share' on_table on_table' w s p o at =
       subst₂ (λ (v : Worker) (x : OnTable). At v (means served' share' x)) (sym w) (sym o) (subst₂ (λ (d : Served C D) (x : Part). At worker (means d x on_table)) (sym s) (sym p) at)
 
-  -- once it has ended
+  -- after it has ended
   pub is_over : (worker : Worker) (served : Served C D) (share : Part) (on_table : OnTable) (passes : Passes Job JobReply) (handed_back : ℕ) → At worker (means served share on_table) → passes.number ≡ worker.number → IsSeatAt (receives_on worker.jobs) passes.job_pass
       → IsSeatAt (sends_on worker.replies) passes.reply_pass → view passes.job_pass ≡ view worker.job_pass → view passes.reply_pass ≡ view worker.reply_pass → handed_back ≡ worker.handed_back → IsOver jobs replies does settings given passes handed_back served.calls share on_table
   is_over worker served share on_table passes handed_back at n j r t p b = record {
@@ -123,7 +123,7 @@ module _ {C D : Type 0} (does : Behaviour C D) (jobs : JobQueue) (replies : Repl
     };
   }
 
--- the same by the names that others have for the queues, the settings, the directory and what was done on the table
+-- the same with the names that others have for the queues, the settings, the directory and what was done on the table
 pub over_at : {C D : Type 0} (does : Behaviour C D) (jobs jobs' : JobQueue) (replies replies' : ReplyQueue) (settings settings' : Settings) (given given' : C) (passes : Passes Job JobReply) (handed_back : ℕ) (left : C) (share : Part) (on_table : OnTable)
     → jobs ≡ jobs' → replies ≡ replies' → settings ≡ settings' → given ≡ given' → IsOver jobs replies does settings given passes handed_back left share on_table → IsOver jobs' replies' does settings' given' passes handed_back left share on_table
 over_at {C = C} does jobs jobs' replies replies' settings settings' given given' passes handed_back left share on_table j r s g over = record {
@@ -132,7 +132,8 @@ over_at {C = C} does jobs jobs' replies replies' settings settings' given given'
   worked = subst₂ (λ (t : Settings) (c : C). HasWorkedFrom does t c passes handed_back left share on_table) s g over.worked;
 }
 
--- the same by the names that others have for the settings and the number, where no job was taken before, no reply put and no call made
+-- the same with the names that others have for the settings and the number, if no job was taken before, no reply put
+-- and no call made
 pub answers_as : {C D : Type 0} (does : Behaviour C D) (settings settings' : Settings) (number number' : ℕ) (job : Job) (taken : Hand Job) (put : Outbox) (calls : C) (dirs : D) (share : Part) (on_table : OnTable) (settled : Option Settlement)
     (after after' : Hand Job) (left left' : Outbox) (by : Means C D) → settings ≡ settings' → number ≡ number' → taken ≡ hand 1 [] [] → put ≡ outbox (sender number' []) 0 → on_table ≡ idle number' → after' ≡ after → left' ≡ left
     → AnswersJob does settings number job (standing taken put (means (record { calls = calls; dirs = dirs }) share on_table)) settled (standing after left by)

@@ -1,4 +1,4 @@
--- What the threads of a session are sent may be sent.
+-- What the threads of a session are given may be sent to them.
 use denote.RattleType.{RattleType}
 use denote.Param.Send.{IsSend, IsSync, sendable}
 use Rattle.std.proofs.Crossing as heap
@@ -34,7 +34,7 @@ use Rattle.engine_turns.specs.contracts.replies.JobReply as JobReply
 use Rattle.ledger.specs.declared.ledgers.Ledgers.{Ghosts}
 
 module _ (T N C : RattleType) (n : opening.Ghosts N.Denot) (g : Ghosts T.Denot) where
-  -- what a worker leaves has a snapshot, so Rattle makes no such lemma of its own
+  -- what is left of a worker contains a snapshot, so Rattle does not generate this lemma
   pub worker_end_send : IsSend T → IsSync T → IsSend N → IsSend C → IsSend (WorkerEnd.the_row T N C g n)
   worker_end_send s y m c =
       let a : IsSend (ThreadShare.the_field T g).row = search (kept.the_field_send T g, sendable) in
@@ -45,7 +45,7 @@ module _ (T N C : RattleType) (n : opening.Ghosts N.Denot) (g : Ghosts T.Denot) 
   pub ready_worker_send : IsSend T → IsSync T → IsSend N → IsSend C → IsSend (ReadyWorker.the_row T N C g n)
   ready_worker_send s y m c = let a : IsSend (ThreadShare.the_field T g).row = search (kept.the_field_send T g, sendable) in let b = worker_send in let f = thread_log_send T g N n m in search sendable depth 20
 
--- what all threads share: each part of it may be sent, and looked at by several at once
+-- what all threads share: each part of it may be sent, and used by several threads at once
 module _ (H T N I O S : RattleType) (n : opening.Ghosts N.Denot) (i : ins.Ghosts I.Denot) (o : out.Ghosts O.Denot) (j : source.Ghosts S.Denot I.Denot) (k : sink.Ghosts S.Denot O.Denot) (g : Ghosts T.Denot) where
   common_send : IsSend H → IsSend T → IsSync T → IsSend N → IsSend I → IsSend O → IsSend S → IsSend (Common.the_row H T N I O S n i o j k g)
   common_send h s y m d e f =

@@ -1,4 +1,4 @@
--- How a session ends.
+-- The ends of sessions.
 use Rattle.std.proofs.Common.{◌≡◌, ℕ, Bool, List, Option, None, Some, ◌≢◌, inl, inr, sym, subst}
 use Rattle.std.proofs.Math.Logic.{∥∥₁_elim}
 use Rattle.engine.specs.Links.{Heard, Piece, Ended, Broke}

@@ -1,4 +1,4 @@
--- A history in which no begin names anything that is reserved keeps hidden marks under reserved names.
+-- A history in which no begin has a reserved name keeps nodes with hidden marks at reserved names.
 use Rattle.std.proofs.Common.{ℕ, ◌==◌, ◌≡◌, Bool, true, false, List, [], ◌∷◌, ◌++◌, All, refl, sym, ap, ◌∙◌, subst}
 use Rattle.std.proofs.lemmas.Bool.{eq-eqb}
 use Rattle.std.proofs.lemmas.List.Elements.{All-cons, All-head, All-nil, All-same, All-tail}
@@ -14,7 +14,7 @@ use Rattle.table_shared.specs.Histories.{IsHistory, Made, calls_by, calls_if, un
 use Rattle.table_shared.specs.Runs.{Call, IsStep, began, finished, forgot, looked, settled}
 use Rattle.engine_threads.proofs.Unreserved.{AreUnreserved, IsUnreservedCall}
 
--- a begin that had to wait is not told, and names nothing that is kept
+-- a begin that had to wait is left out, and does not matter
 told_is : (call : Call) → AreUnreserved (unless_busy call) → IsUnreservedCall call
 told_is (began unique want (Go ticket)) all = All-head IsUnreservedCall (began unique want (Go ticket)) [] all
 told_is (began unique want Busy) all = tt
@@ -35,7 +35,7 @@ begins_lawful : (start : World) (history : List Made) → IsHistory start histor
 begins_lawful start [] run = run
 begins_lawful start (made ∷ history) run = run.0
 
--- the calls of a list that come first, and those after them
+-- the first calls of a list, and those after them
 first_of : (calls rest : List Call) → AreUnreserved (calls ++ rest) → AreUnreserved calls
 first_of [] rest all = All-nil IsUnreservedCall
 first_of (call ∷ calls) rest all =

@@ -1,4 +1,4 @@
--- What workers leave, and the coordinator after them.
+-- What is left of the workers, and then of the coordinator.
 use Rattle.std.proofs.Common.{◌≡◌, ℕ, suc, ◌+◌, List, [], ◌∷◌, ◌++◌, length, map, Option, refl, sym, ap, subst, ◌∙◌, append_assoc, arith}
 use Rattle.std.specs.List.{All, range_with_len}
 use Rattle.std.proofs.lemmas.List.Elements.{All-cons, All-head, All-nil, All-push, All-same, All-tail, All-pop}
@@ -23,7 +23,7 @@ use Rattle.engine_threads.proofs.Lists.{map_last, range_more}
 abbrev Seated : JobQueue → ReplyQueue → Passes Job JobReply → Type 0
 Seated jobs replies p = IsSeatAt jobs p.job_pass × IsSeatAt replies p.reply_pass
 
--- what a thread did, by its log and by the history
+-- what a thread did, according to its log and to the history
 pub made_as : {L : Type 0} (calls_by : ℕ → List Call) (thread_log : View (LogEntry L)) (number : ℕ) → thread_log.by ≡ number → calls_by thread_log.by ≡ calls_of thread_log.mine → on_table_of thread_log ≡ made_by calls_by number
 made_as calls_by thread_log number n d =
     let calls : calls_of thread_log.mine ≡ calls_by number = sym d ∙ ap calls_by n in
@@ -42,7 +42,7 @@ module _ {T N C D : Type 0} (jobs : JobQueue) (replies : ReplyQueue) (does : Beh
   abbrev pub passes_of : List (WorkerEnd T N C) → List (Passes Job JobReply)
   passes_of es = map (λ (e : WorkerEnd T N C). e.passes) es
 
-  -- how many replies of each were handed back
+  -- how many replies of each the queue returned
   abbrev pub counts_of : List (WorkerEnd T N C) → List ℕ
   counts_of es = map (λ (e : WorkerEnd T N C). e.handed_back) es
 
@@ -107,7 +107,7 @@ module _ {T N C D : Type 0} (jobs : JobQueue) (replies : ReplyQueue) (does : Beh
     last_of [] all = All-head Ends last [] all
     last_of (x ∷ before) all = last_of before (All-tail Ends x (before ++ last ∷ []) all)
 
-  -- all passes, where the last worker's and the coordinator's came behind the others
+  -- all passes, with the last worker's and the coordinator's after the others
   pub passes_are : (es rest : List (WorkerEnd T N C)) (last : WorkerEnd T N C) (worker own : Passes Job JobReply) (ps : List (Passes Job JobReply)) → es ≡ rest ++ last ∷ [] → worker ≡ last.passes → ps ≡ (passes_of rest ++ worker ∷ []) ++ own ∷ [] → passes_of es ++ own ∷ [] ≡ ps
   passes_are es rest last worker own ps e w p = sym (p ∙ ap (λ (l : List (Passes Job JobReply)). l ++ own ∷ []) (ap (λ (q : Passes Job JobReply). passes_of rest ++ q ∷ []) w ∙ sym (passes_in es rest last e)))
 

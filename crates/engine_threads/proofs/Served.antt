@@ -23,7 +23,7 @@ use Rattle.engine_threads.specs.declared.ended.Account.{Account}
 use Rattle.engine_threads.specs.declared.ended.Passed.{Passed}
 
 module _ {C O L : Type 0} (gives : C → Asked → Answer → C → Type 0) (sends : O → List ℕ → Sent → O → Type 0) (settings : Settings) (calls : List C) (link : O) where
-  -- what was served is what a closed table tells
+  -- what was served is what a closed table shows
   pub has_served : (limits own : Limits) (count : ℕ) (log : Log L) (passed : Passed) (served : Option Account) → limits ≡ own → count ≡ length calls → IsHistory (opened_world own) (history_of log) → ((index : ℕ) → count + 2 ≤ index → did log index ≡ [])
       → WorkedEach (does_shared gives) settings (did log) calls passed.passes.value.items passed.handed_back.items → CoordinatorAnswers (does_shared gives) settings (did log) calls passed.last_job.value passed.passes.value.items passed.handed_back.items
       → ∥ HasWrittenAll sends (Some link) (count + 1) (made_by (did log) (count + 1)) (view passed.written.value) passed.is_broken ∥₁ → numbers_of passed.passes.value.items ≡ range_with_len 0 (count + 1)

@@ -1,4 +1,4 @@
--- What passes tell together is told of what is seen of them.
+-- What passes say together also holds for their views.
 use Rattle.std.proofs.Common.{◌≡◌, List, length, map, sym, subst}
 use Rattle.std.specs.List.{flat_map}
 use Rattle.engine_queues.specs.declared.job.Job.{Job}

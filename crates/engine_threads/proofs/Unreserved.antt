@@ -38,7 +38,7 @@ use Rattle.engine_turns.specs.declared.replies.JobReply.{JobReply}
 use Rattle.engine_threads.specs.Worked.{AnswersLastJob, CoordinatorAnswers, HasWorkedFrom, WorkedEach, made_by}
 use Rattle.engine_threads.proofs.Lists.{last_same, range_more}
 
--- a begin, if the call is one, names nothing that is reserved
+-- a begin, if the call is one, has no reserved name
 abbrev pub IsUnreservedCall : Call → Type 0
 IsUnreservedCall (began unique want told) = IsBegunUnreserved want told
 IsUnreservedCall (finished id outcome told) = Unit {0}
@@ -69,7 +69,7 @@ told_call (looked fh told) is = one_call (looked fh told) is
 abbrev IsUnreservedSoFar : Known → Type 0
 IsUnreservedSoFar k = AreUnreserved k.on_table.calls
 
--- one call more
+-- one more call
 made_on : (old new : Known) (call : Call) (turn_end : TurnEnd) → IsUnreservedCall call → IsUnreservedSoFar old → new ≡ record { turn_end = turn_end; on_table = then_made old.on_table call } → IsUnreservedSoFar new
 made_on old new call turn_end is so same =
     subst IsUnreservedSoFar (sym same) (All-append IsUnreservedCall old.on_table.calls (unless_busy call) so (told_call call is))
@@ -121,7 +121,7 @@ module _ {C D : Type 0} (does : Behaviour C D) (settings : Settings) where
       works_unreserved passes.number it.worked.settled (newcomer passes.number given it.worked.dirs it.worked.share)
       (standing (view passes.job_pass) (outbox (view passes.reply_pass) back) (means (record { calls = left; dirs = it.dirs }) share on_table)) it.worked.works no_calls
 
-  -- each worker, of whom the first has this number
+  -- each worker, the first of which has this number
   each_unreserved : (calls_by : ℕ → List Call) (given : List C) (passes : List (Passes Job JobReply)) (backs : List ℕ) (from count : ℕ) → count ≡ length given → numbers_of passes ≡ range_with_len from (suc count)
       → WorkedEach does settings calls_by given passes backs → (index : ℕ) → from ≤ index → index < from + count → AreUnreserved (calls_by index)
   each_unreserved calls_by [] passes backs from count all numbers it index above below = absurd (omega (arith, all))

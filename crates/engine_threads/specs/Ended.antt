@@ -1,4 +1,4 @@
--- What a session on threads leaves.
+-- The result of a session on threads.
 use Rattle.std.specs.Prelude.{◌≡◌, ℕ, Bool, true, false, List, [], ◌∷◌, ◌++◌, length, map, Option, Some, None}
 use Rattle.std.specs.List.{flat_map}
 use Rattle.ledger.specs.Shares.{Part, sum_of}
@@ -17,7 +17,7 @@ use Rattle.engine_queues.specs.declared.replies.ReplyLane.{ReplyLane}
 use Rattle.engine_queues.specs.declared.passes.Passes.{Passes}
 use Rattle.engine_turns.specs.declared.replies.JobReply.{JobReply}
 
--- what the ledger of a lawful table holds, and these shares sum to it
+-- the total of a lawful table's ledger, which is the sum of these shares
 pub record IsGathered (totals : Totals) : Type 0 where
   pub world : World
   pub lawful : IsLawfulWorld world
@@ -25,13 +25,13 @@ pub record IsGathered (totals : Totals) : Type 0 where
   pub shares : List Part
   pub sums : totals ≡ sum_of shares
 
--- how many jobs each worker took, of whom the coordinator comes last
+-- how many jobs each worker took; the coordinator comes last
 pub record AreCounts {J : Type 0} (taken : List ℕ) (takings : List (List J)) : Type 0 where
   pub own : ℕ
   pub all : taken ++ own ∷ [] ≡ map (λ js. length js) takings
 
--- How a session ended: a link that broke as a reply was offered ends it, whatever else did; else a receive ended it so. Reading is stopped
--- only for such a break, so one of both is there.
+-- How a session ended: if the link broke when a reply was offered, that is the end, whatever else happened; otherwise a
+-- receive ended it like this. Reading is stopped early only for such a break, so one of the two is the case.
 abbrev pub EndsAs : (input : Option SessionEnd) → (is_broken : Bool) → SessionEnd → Type 0
 EndsAs input true end = end ≡ LinkBroken
 EndsAs (Some over) false end = end ≡ over

@@ -29,12 +29,12 @@ use Rattle.engine_turns.specs.declared.working.Worker.{Worker}
 abbrev pub does_shared : {C : Type 0} → (C → Asked → Answer → C → Type 0) → Behaviour C (Bor FolderLimits)
 does_shared gives = does gives Shares
 
--- these passes have taken no job and put no reply
+-- with these passes no job was taken and no reply put
 pub record AreUnused (passes : Passes Job JobReply) : Type 0 where
   pub takes_none : view passes.job_pass ≡ hand 1 [] []
   pub puts_none : view passes.reply_pass ≡ sender passes.number []
 
--- a worker at these queues, by these settings, that has taken no job, put no reply and got none back
+-- a worker at these queues, with these settings, that has taken no job, put no reply and got none back
 pub record IsNewWorker (jobs : JobQueue) (replies : ReplyQueue) (settings : Settings) (worker : Worker) : Type 0 where
   pub takes_from : receives_on worker.jobs ≡ jobs
   pub puts_into : sends_on worker.replies ≡ replies
@@ -43,14 +43,14 @@ pub record IsNewWorker (jobs : JobQueue) (replies : ReplyQueue) (settings : Sett
   pub puts_none : view worker.reply_pass ≡ sender worker.number []
   pub none_back : worker.handed_back ≡ 0
 
--- the same with a share on which nothing stands, and no call on the table
+-- the same with an empty share, and no call on the table
 pub record IsReadyWorker (jobs : JobQueue) (replies : ReplyQueue) (settings : Settings) (worker : Worker) (share : Part) (on_table : OnTable) : Type 0 where
   pub is_new : IsNewWorker jobs replies settings worker
   pub share_is : share.totals ≡ nothing
   pub idle_is : on_table ≡ idle worker.number
 
--- the worker of these passes began with this directory, got so many of its replies back, did this on the table, and left that directory and
--- this share
+-- the worker with these passes began with this directory, got that many of its replies back, did this on the table, and
+-- ended with that directory and this share
 pub record HasWorkedFrom {C D : Type 0} (does : Behaviour C D) (settings : Settings) (given : C) (passes : Passes Job JobReply) (handed_back : ℕ) (left : C) (share : Part) (on_table : OnTable) : Type 0 where
   pub dirs : D
   pub worked : HasWorked does settings passes.number given (standing (view passes.job_pass) (outbox (view passes.reply_pass) handed_back) (means (record { calls = left; dirs = dirs }) share on_table))
@@ -61,15 +61,16 @@ pub record IsOver {C D : Type 0} (jobs : JobQueue) (replies : ReplyQueue) (does 
   pub reply_seat : IsSeatAt replies passes.reply_pass
   pub worked : HasWorkedFrom does settings given passes handed_back left share on_table
 
--- what the thread of an index did on the table, where this says of each which calls it made
+-- what the thread with this index did on the table, given which calls each thread made
 abbrev pub made_by : (calls_by : ℕ → List Call) → ℕ → OnTable
 made_by calls_by index = record { by = index; calls = calls_by index }
 
--- which calls each thread made, by a log of all
+-- which calls each thread made, given a log of all
 abbrev pub did : {L : Type 0} → Log L → ℕ → List Call
 did log index = calls_by index (history_of log)
 
--- each directory's worker worked so, by these calls on the table, and got so many of its replies back, whatever it left; the coordinator comes last
+-- each directory's worker worked like this, with these calls on the table, and got that many of its replies back; the
+-- coordinator comes last
 abbrev pub WorkedEach : {C D : Type 0} → Behaviour C D → Settings → (calls_by : ℕ → List Call) → (given : List C) → List (Passes Job JobReply) → (handed_back : List ℕ) → Type 0
 WorkedEach does settings calls_by [] passes handed_back = (own : Passes Job JobReply) × (count : ℕ) × (passes ≡ own ∷ []) × (handed_back ≡ count ∷ [])
 WorkedEach does settings calls_by (calls ∷ given) [] handed_back = ⊥
@@ -77,8 +78,8 @@ WorkedEach does settings calls_by (calls ∷ given) (one ∷ passes) [] = ⊥
 WorkedEach {C = C} does settings calls_by (calls ∷ given) (one ∷ passes) (count ∷ handed_back) =
     ((left : C) × (share : Part) × HasWorkedFrom does settings calls one count left share (made_by calls_by one.number)) × WorkedEach does settings calls_by given passes handed_back
 
--- a job that was not queued is answered by who has these passes, with this directory and this share, and by these calls on the table; so many
--- replies, one or none, were handed back
+-- a job that was not in the queue is answered with these passes, this directory and this share, by these calls on the
+-- table; that many replies, one or none, were returned
 pub record AnswersLast {C D : Type 0} (does : Behaviour C D) (settings : Settings) (job : Job) (calls : C) (share : Part) (passes : Passes Job JobReply) (handed_back : ℕ) (on_table : OnTable) : Type 0 where
   pub dirs : D
   pub settled : Option Settlement
@@ -86,12 +87,12 @@ pub record AnswersLast {C D : Type 0} (does : Behaviour C D) (settings : Setting
   pub gained : Part
   pub answers : AnswersJob does settings passes.number job (newcomer passes.number calls dirs share) settled (standing (view passes.job_pass) (outbox (view passes.reply_pass) handed_back) (means served gained on_table))
 
--- the frame that ended the session is answered, if one did; else nothing is put, and nothing done
+-- the frame that ended the session is answered, if one did; otherwise nothing is put and nothing is done
 abbrev pub AnswersLastJob : {C D : Type 0} → Behaviour C D → Settings → (last_job : Option Job) → C → Part → Passes Job JobReply → (handed_back : ℕ) → OnTable → Type 0
 AnswersLastJob does settings None calls share passes handed_back on_table = AreUnused passes × (handed_back ≡ 0) × (on_table ≡ idle passes.number)
 AnswersLastJob does settings (Some job) calls share passes handed_back on_table = AnswersLast does settings job calls share passes handed_back on_table
 
--- the coordinator, who comes last, does so with what the last worker left
+-- the coordinator, which comes last, does this with what was left of the last worker
 pub record CoordinatorAnswers {C D : Type 0} (does : Behaviour C D) (settings : Settings) (calls_by : ℕ → List Call) (given : List C) (last_job : Option Job) (passes : List (Passes Job JobReply)) (handed_back : List ℕ) : Type 0 where
   pub others : List C
   pub calls : C

@@ -1,4 +1,4 @@
-//! Room for what all threads of a session leave.
+//! Buffers for what is left of all threads of a session.
 
 ghost use Rattle.std.specs.Prelude.{◌≡◌, ◌≤◌, [], IfSome, vec_capacity};
 
@@ -15,7 +15,8 @@ use ledger::Ledgers;
 use std::alloc::Global;
 use table_shared::Opening;
 
-/// Room for what all leave, with nothing in it.
+/// Empty buffers for what is left of all threads. They are allocated at the beginning, so that the end does not
+/// allocate.
 pub struct EndBuffers<T: Ledgers, N: Opening, C: Calls + Drop> {
     pub handles: Vec<Working<T, N, C>>,
     pub ended: Vec<WorkerEnd<T, N, C>>,
@@ -25,7 +26,7 @@ pub struct EndBuffers<T: Ledgers, N: Opening, C: Calls + Drop> {
 }
 
 impl<T: Ledgers, N: Opening, C: Calls + Drop> Drop for EndBuffers<T, N, C> {
-    // A call: else whoever drops it is checked for each of its parts.
+    // This is a call so that code that drops the value is not checked for each of its parts.
     fn drop(self) {
         let EndBuffers {
             handles: _,
@@ -37,7 +38,7 @@ impl<T: Ledgers, N: Opening, C: Calls + Drop> Drop for EndBuffers<T, N, C> {
     }
 }
 
-/// An empty vector with room for so many. None is want of memory.
+/// An empty vector with room for `count` items. None means that memory was refused.
 fn room_for<X: Drop>(alloc: Global, count: usize) -> Option<Vec<X>>
     ensures { IfSome result (λ v. (count ≤ vec_capacity v) × (v.items ≡ [])) }
 {
@@ -45,7 +46,7 @@ fn room_for<X: Drop>(alloc: Global, count: usize) -> Option<Vec<X>>
 }
 
 impl<T: Ledgers, N: Opening, C: Calls + Drop> EndBuffers<T, N, C> {
-    /// For four workers and the coordinator. None is want of memory.
+    /// Buffers for four workers and the coordinator. None means that memory was refused.
     pub fn new(alloc: Global) -> Option<EndBuffers<T, N, C>>
         ensures handles { IfSome result (λ r. (4 ≤ vec_capacity r.handles) × (r.handles.items ≡ [])) }
         ensures ended { IfSome result (λ r. (4 ≤ vec_capacity r.ended) × (r.ended.items ≡ [])) }
@@ -66,7 +67,7 @@ impl<T: Ledgers, N: Opening, C: Calls + Drop> EndBuffers<T, N, C> {
             taken,
         })
     }
-    /// With the workers, and what the coordinator has of its own.
+    /// Adds the workers and the coordinator's own parts.
     pub fn into_threads(
         self,
         ready_workers: Vec<ReadyWorker<T, N, C>>,

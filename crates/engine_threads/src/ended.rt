@@ -1,4 +1,4 @@
-//! What a session on threads leaves.
+//! The result of a session on threads.
 
 ghost use Rattle.std.specs.Prelude.{◌≡◌, ◌<◌, ◌+◌, [], length, map, None, Some, IfSome, vec_len};
 ghost use Rattle.ledger.specs.Sums.{totals_over};
@@ -16,7 +16,7 @@ use ledger::{Ledgers, Share, Totals};
 use std::snapshot::Snapshot;
 use table::Table;
 
-/// What the shares of all threads add up to, which is what the ledger of their table holds. Only a table that is gathered makes it.
+/// The sum of all threads' shares, which is the total of the table's ledger. Only gathering a table makes it.
 #[derive(Drop)]
 pub struct Sums {
     totals: Totals,
@@ -24,7 +24,7 @@ pub struct Sums {
 }
 
 impl Sums {
-    /// Adds up the shares. None where one is missing.
+    /// Adds up the shares. None means that one is missing.
     pub(crate) fn gather<T: Ledgers>(table: Table<T>, shares: Vec<Share<T>>) -> Option<Sums>
         ensures { IfSome result (λ sums. sums.totals ≡ totals_over (world_of table).postings) }
     {
@@ -43,31 +43,34 @@ impl Sums {
     }
 }
 
-/// What passed through the queues and the link of a session. What its snapshots show stands in proofs alone, and takes no memory.
+/// The traffic of the queues and the link of a session. What its snapshots show exists only in proofs, and takes no
+/// memory.
 #[derive(Drop)]
 pub struct Passed {
-    /// How a receive ended the input. None where the link broke as a reply was offered, and no receive was made after that.
+    /// How a receive ended the input. None means that the link broke when a reply was offered, and no receive was made
+    /// after that.
     pub input: Option<SessionEnd>,
-    /// Whether the link broke as a reply was offered.
+    /// Whether the link broke when a reply was offered.
     pub is_broken: bool,
     /// The jobs that the reader put.
     pub read: Snapshot<JobPass<Job>>,
-    /// The job of the frame that ended the session, if one did. It was not put.
+    /// The job of the frame that ended the session, if one did. It was not put into the queue.
     pub last_job: Snapshot<Option<Job>>,
-    /// The replies that the writer got.
+    /// The replies that the writer took.
     pub written: Snapshot<ReplyPass<JobReply>>,
-    /// Which jobs each worker took and which replies it put. The coordinator, who answers the last frame and takes no job, comes last.
+    /// Which jobs each worker took, and which replies it put. The coordinator, which answers the last frame and takes
+    /// no job, comes last.
     pub passes: Snapshot<Vec<Passes<Job, JobReply>>>,
-    /// How many replies of each of these their queue handed back.
+    /// How many replies of each of these the queue returned.
     pub handed_back: Vec<u64>,
-    /// Whether the queue of jobs handed one back to the reader.
+    /// Whether the job queue returned a job to the reader.
     pub is_job_handed_back: bool,
 }
 
 /// What was served.
 #[derive(Drop)]
 pub struct Account {
-    /// What was posted in all.
+    /// The totals of what was posted.
     pub sums: Sums,
     /// How many jobs each worker took.
     pub taken: Vec<u64>,
@@ -76,7 +79,7 @@ pub struct Account {
 }
 
 impl Account {
-    /// What was served, by the counts of all who took jobs.
+    /// What was served, given the counts of all who took jobs.
     pub(crate) fn new(sums: Sums, counts: Vec<u64>, passed: Passed) -> Account
         requires some { 0 < vec_len counts }
         requires counts { counts.items ≡ map (λ js. length js) (takings_of passed.passes.value.items) }
@@ -98,7 +101,7 @@ impl Account {
 #[derive(Drop)]
 pub struct Ended {
     pub end: SessionEnd,
-    /// None where nothing was served: for want of memory or a thread, or without workers.
+    /// None means that nothing was served: memory or a thread was refused, or there were no workers.
     pub account: Option<Account>,
 }
 

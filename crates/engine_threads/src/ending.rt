@@ -1,4 +1,4 @@
-//! What is left to do once all threads have ended, in its order.
+//! What is left to do, in order, after all threads have ended.
 
 ghost use Rattle.std.specs.Prelude.{◌≡◌, ◌<◌, ◌≤◌, ◌+◌, [], length, map, Some, vec_len, vec_capacity};
 ghost use Rattle.std.specs.List.{All, range_with_len};
@@ -32,7 +32,7 @@ use std::snapshot::Snapshot;
 use std::sync::Wait;
 use table_shared::{Closed, Opening};
 
-/// What the threads of a session have left.
+/// What is left of the threads of a session.
 #[derive(Drop)]
 pub struct Over<T: Ledgers, N: Opening, C: Calls + Drop> {
     pub passed: Passed,
@@ -43,7 +43,8 @@ pub struct Over<T: Ledgers, N: Opening, C: Calls + Drop> {
     pub calls: C,
 }
 
-/// What the coordinator has of its own: passes and a log, what it answers the last frame with, and room for what all leave.
+/// The coordinator's own parts: passes and a log, what it needs to answer the last frame, and buffers for what is left
+/// of all threads.
 pub struct Finisher<T: Ledgers, N: Opening> {
     pub own: ThreadStart<T, N>,
     pub coordinator: Coordinator,
@@ -54,7 +55,7 @@ pub struct Finisher<T: Ledgers, N: Opening> {
 }
 
 impl<T: Ledgers, N: Opening> Drop for Finisher<T, N> {
-    // A call: else whoever drops it is checked for each of its parts.
+    // This is a call so that code that drops the value is not checked for each of its parts.
     fn drop(self) {
         let Finisher {
             own: _,
@@ -68,8 +69,8 @@ impl<T: Ledgers, N: Opening> Drop for Finisher<T, N> {
 }
 
 impl<T: Ledgers, N: Opening> Finisher<T, N> {
-    /// Answers the frame that ended the session, offers what is still queued, and gathers what all passes tell. The last of these is the
-    /// coordinator's, who takes no job.
+    /// Answers the frame that ended the session, offers what is still queued, and combines what all passes say. The
+    /// last of these is that of the coordinator, which takes no job.
     pub fn end_all<
         H: Wait + Drop,
         I: LinkIn + Drop,

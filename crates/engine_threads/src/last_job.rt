@@ -30,7 +30,7 @@ pub struct Coordinator {
 }
 
 impl Drop for Coordinator {
-    // A call: else whoever drops it is checked for each of its parts.
+    // This is a call so that code that drops the value is not checked for each of its parts.
     fn drop(self) {
         let Coordinator {
             alloc: _,
@@ -41,24 +41,24 @@ impl Drop for Coordinator {
     }
 }
 
-/// What the coordinator has of its own at the queues and at the table.
+/// A thread's own parts for the queues and the table.
 #[derive(Drop)]
 pub struct ThreadStart<T: Ledgers, N: Opening> {
     pub passes: Passes<Job, JobReply>,
     pub thread_log: ThreadLog<LogEntry<T>, Runs<N>>,
 }
 
-/// What a thread leaves at the queues and at the table.
+/// What is left of a thread at the queues and the table.
 #[derive(Drop)]
 pub struct ThreadEnd<T: Ledgers, N: Opening> {
     pub passes: Passes<Job, JobReply>,
-    /// How many of its replies were handed back.
+    /// How many of its replies the queue returned.
     pub handed_back: u64,
     pub thread_log: ThreadLog<LogEntry<T>, Runs<N>>,
 }
 
 impl Coordinator {
-    /// Puts the reply to the frame that ended the session, as a worker does.
+    /// Answers the frame that ended the session, as a worker would, and queues the reply.
     fn answer_last<H: Wait + Drop, T: Ledgers, N: Opening, C: Calls + Drop, D: Folders>(
         self,
         rt: &H,
@@ -87,7 +87,7 @@ impl Coordinator {
         let mut table_handle = TableHandle::new(rt, shared_table, thread_log);
         match worker.answer(&mut table_handle, &mut kept.share, served, job) {
             Turn::Worked(_settled) => {}
-            // Its count is new.
+            // The count of its replies that were returned is still 0.
             Turn::Nothing => unreachable!(),
         }
         let handed_back = worker.handed_back;
@@ -99,7 +99,7 @@ impl Coordinator {
     }
 }
 
-/// What a thread leaves that was asked for nothing.
+/// What is left of a thread that had nothing to do.
 fn unasked<T: Ledgers, N: Opening>(own: ThreadStart<T, N>) -> ThreadEnd<T, N>
     ensures { (result.passes ≡ own.passes) × (result.handed_back ≡ 0) × (result.thread_log ≡ own.thread_log) }
 {

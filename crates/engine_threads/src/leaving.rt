@@ -1,4 +1,4 @@
-//! What the workers leave, and the coordinator's reply to the frame that ended the session.
+//! What is left of the workers, and the coordinator's reply to the frame that ended the session.
 
 ghost use Rattle.std.specs.Prelude.{◌≡◌, ◌<◌, ◌≤◌, ◌+◌, ◌++◌, ◌∷◌, [], map, vec_len, vec_capacity};
 ghost use Rattle.std.specs.List.{All};
@@ -23,12 +23,12 @@ use std::snapshot::Snapshot;
 use std::sync::Wait;
 use table_shared::{Closed, Opening, SharedTable};
 
-/// What the workers and the coordinator leave, once the frame that ended the session is answered.
+/// What is left of the workers and the coordinator, after the frame that ended the session is answered.
 #[derive(Drop)]
 pub struct Leaving<T: Ledgers, N: Opening, C: Calls + Drop> {
-    /// The workers but the last.
+    /// The workers except the last.
     pub ends: Vec<WorkerEnd<T, N, C>>,
-    /// What the last one left.
+    /// What was left of the last one.
     pub last: Snapshot<WorkerEnd<T, N, C>>,
     pub worker: ThreadEnd<T, N>,
     pub own: ThreadEnd<T, N>,
@@ -36,7 +36,8 @@ pub struct Leaving<T: Ledgers, N: Opening, C: Calls + Drop> {
     pub calls: C,
 }
 
-/// With the directory and the share of the last worker the coordinator answers the frame that ended the session, if one did.
+/// The coordinator answers the frame that ended the session, if one did, with the directory and the share of the last
+/// worker.
 pub fn take_leave<H: Wait + Drop, T: Ledgers, N: Opening, C: Calls + Drop>(
     rt: &H,
     shared_table: &SharedTable<T, N>,
@@ -103,7 +104,7 @@ pub fn take_leave<H: Wait + Drop, T: Ledgers, N: Opening, C: Calls + Drop>(
     }
 }
 
-/// What a thread did is what the history has of it. Its passes are left.
+/// Checks off a thread against the history: what it did is what the history has of it. Its passes remain.
 fn part_end<T: Ledgers, N: Opening>(
     closed: &mut Closed<T, N>,
     end: ThreadEnd<T, N>,
@@ -121,7 +122,7 @@ fn part_end<T: Ledgers, N: Opening>(
     passes
 }
 
-/// The same of a worker, whose share goes back.
+/// The same for a worker, whose share is given back.
 fn part<T: Ledgers, N: Opening, C: Calls + Drop>(
     closed: &mut Closed<T, N>,
     end: WorkerEnd<T, N, C>,
@@ -148,7 +149,7 @@ fn part<T: Ledgers, N: Opening, C: Calls + Drop>(
     part_end(closed, end)
 }
 
-/// The same of some workers, in their order, with how many replies of each were handed back.
+/// The same for several workers, in order, with how many replies of each the queue returned.
 fn part_all<T: Ledgers, N: Opening, C: Calls + Drop>(
     closed: &mut Closed<T, N>,
     ends: Vec<WorkerEnd<T, N, C>>,
@@ -174,7 +175,8 @@ fn part_all<T: Ledgers, N: Opening, C: Calls + Drop>(
     (passes, handed_back)
 }
 
-/// Takes apart what all leave: their passes, of which the coordinator's come last, how many replies of each were handed back, and a directory.
+/// Takes apart what is left of all: their passes, with the coordinator's last, how many replies of each the queue
+/// returned, and a directory.
 pub fn part_with<T: Ledgers, N: Opening, C: Calls + Drop>(
     closed: &mut Closed<T, N>,
     leaving: Leaving<T, N, C>,

@@ -1,4 +1,4 @@
-//! A session on one to four threads, each of which takes whatever turn is due: it offers replies, works on a job, or reads.
+//! A session on one to four threads. Each takes whichever turn is due: it offers replies, works on a job, or reads.
 #![tactic(auto)]
 
 mod end_buffers;

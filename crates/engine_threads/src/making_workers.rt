@@ -1,4 +1,4 @@
-//! The ends and passes of a number of workers, and of the one who starts them.
+//! Making the workers of a session, with their ends of the queues and their passes.
 
 ghost use Rattle.std.specs.Prelude.{◌≡◌, ◌<◌, ◌≤◌, ◌+◌, ◌++◌, ◌∷◌, [], length, map, IfSome, vec_len, vec_capacity};
 ghost use Rattle.std.specs.Vec.Iter.{into_iter_items};
@@ -55,7 +55,7 @@ pub fn cut_passes(
     }
 }
 
-/// A worker with these passes and ends of its own. None is want of memory.
+/// A worker with these passes and its own ends of the queues. None means that memory was refused.
 fn new_worker(
     alloc: Global,
     settings: Settings,
@@ -76,7 +76,7 @@ fn new_worker(
     Some(Worker::new(alloc, settings, work, replies, passes))
 }
 
-/// So many workers, by their numbers.
+/// That many workers, with their numbers in order.
 fn new_workers(
     alloc: Global,
     settings: Settings,
@@ -128,7 +128,7 @@ fn ready<T: Ledgers, N: Opening, C: Calls + Drop>(
     }
 }
 
-/// A share, a log and a directory for the next worker. None where one is missing.
+/// A share, a log and a directory for the next worker. None means that one is missing.
 fn next_of<T: Ledgers, N: Opening, C: Calls + Drop>(
     shares: &mut Shares<T>,
     unseen: &mut IntoIter<ThreadLog<LogEntry<T>, Runs<N>>, Global>,
@@ -144,7 +144,7 @@ fn next_of<T: Ledgers, N: Opening, C: Calls + Drop>(
     Some((kept, thread_log, calls))
 }
 
-/// A share, a log and a directory for each worker. None where one is missing.
+/// A share, a log and a directory for each worker. None means that one is missing.
 fn make_ready<T: Ledgers, N: Opening, C: Calls + Drop>(
     jobs: &JobSender<Job>,
     replies: &ReplySender<JobReply>,
@@ -176,7 +176,8 @@ fn make_ready<T: Ledgers, N: Opening, C: Calls + Drop>(
     Some(ready_workers)
 }
 
-/// Workers for these directories, each with a share, a log and its directory, by their numbers. None where memory or a share is missing.
+/// Workers for these directories, each with a share, a log and its directory, with their numbers in order. None means
+/// that memory was refused or a share is missing.
 pub fn make_ready_workers<T: Ledgers, N: Opening, C: Calls + Drop>(
     alloc: Global,
     settings: Settings,

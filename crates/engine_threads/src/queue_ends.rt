@@ -1,4 +1,4 @@
-//! The two queues of a session, as they are made.
+//! The two queues of a session, and their ends.
 
 ghost use Rattle.std.specs.Prelude.{◌≡◌, ◌<◌, [], true, false, length, None, IfSome};
 ghost use Rattle.crossbeam_channel.specs.Claims.{view, IsSeatAt};
@@ -20,24 +20,24 @@ use ledger::Ledgers;
 use std::alloc::Global;
 use wire::HEADER_LEN;
 
-/// How many jobs wait at most: more than one receive can bring, which has 3,276 frames at most.
+/// The capacity of the job queue: more than one receive can bring, which is at most 3,276 frames.
 const JOBS: usize = 3_328;
 
 // A receive ends at most the one frame that was begun before it, and brings whole frames of a header's length at least. With a place for
 // each of them a session with one worker reads on only once it has room.
 const _: () = prove!(READ_AT_ONCE / HEADER_LEN + 1 < JOBS);
 
-/// How many replies wait to be offered at most: as many as four threads may leave, so that nobody waits for a place.
+/// The capacity of the reply queue: as many replies as four threads may leave in it, so that no thread waits for room.
 const REPLIES: usize = 4 * JOINED;
 
-/// Where jobs and replies are put.
+/// The ends into which jobs and replies are put.
 pub struct Senders {
     pub jobs: JobSender<Job>,
     pub replies: ReplySender<JobReply>,
 }
 
 impl Drop for Senders {
-    // A call: else whoever drops them is checked for each part of a queue.
+    // This is a call so that code that drops the value is not checked for each part of a queue.
     fn drop(self) {
         let Senders {
             jobs: _,
@@ -46,7 +46,7 @@ impl Drop for Senders {
     }
 }
 
-/// Where they are taken out, and the first pass of each queue, of which all others are made.
+/// The ends from which they are taken, and the first pass of each queue, from which all others are made.
 pub struct Receivers {
     pub work: JobReceiver<Job>,
     pub read: JobPass<Job>,
@@ -55,7 +55,7 @@ pub struct Receivers {
 }
 
 impl Drop for Receivers {
-    // A call, as that of the senders.
+    // This is a call for the same reason as for the senders.
     fn drop(self) {
         let Receivers {
             work: _,
@@ -66,7 +66,7 @@ impl Drop for Receivers {
     }
 }
 
-/// What takes from the queues, but for the workers, and the writer's share.
+/// The receiving ends of the queues other than the workers', with the writer's share.
 #[derive(Drop)]
 pub struct Ends<T: Ledgers> {
     pub coordinator: Coordinator,
@@ -75,14 +75,15 @@ pub struct Ends<T: Ledgers> {
     pub kept: ThreadShare<T>,
 }
 
-/// An empty queue of jobs: both ends, and the pass that has put and taken nothing. None is want of memory.
+/// An empty job queue: both ends, and the pass that has put and taken nothing. None means that memory was refused.
 fn job_queue(alloc: Global) -> Option<(JobSender<Job>, JobReceiver<Job>, JobPass<Job>)>
     ensures { IfSome result (λ q. (receives_on q.1 ≡ sends_on q.0) × IsSeatAt (sends_on q.0) q.2 × (view q.2 ≡ hand 8 [] [])) }
 {
     bounded_with::<Option<Job>, Hand<Job>, Fair, Global>(alloc, JOBS).ok()
 }
 
-/// An empty queue of replies: both ends, and the pass that has got nothing and that no sender's was made of. None is want of memory.
+/// An empty reply queue: both ends, and the pass that has taken nothing and from which no sender's pass was made. None
+/// means that memory was refused.
 fn reply_queue(
     alloc: Global,
 ) -> Option<
@@ -99,7 +100,7 @@ fn reply_queue(
     ).ok()
 }
 
-/// Both queues, with nothing in them. None is want of memory.
+/// Both queues, empty. None means that memory was refused.
 pub fn queues(alloc: Global) -> Option<(Senders, Receivers)>
     ensures work { IfSome result (λ q. receives_on q.1.work ≡ sends_on q.0.jobs) }
     ensures read { IfSome result (λ q. IsSeatAt (sends_on q.0.jobs) q.1.read) }
@@ -120,7 +121,7 @@ pub fn queues(alloc: Global) -> Option<(Senders, Receivers)>
     Some((senders, receivers))
 }
 
-/// A reader with a sender of its own. None is want of memory.
+/// A reader with its own sender. None means that memory was refused.
 fn reader_of(alloc: Global, jobs: &JobSender<Job>, read: JobPass<Job>) -> Option<Reader>
     requires seat { IsSeatAt (sends_on jobs.now) read }
     requires parts { 0 < (view read).parts }
@@ -135,7 +136,7 @@ fn reader_of(alloc: Global, jobs: &JobSender<Job>, read: JobPass<Job>) -> Option
     Reader::new(alloc, jobs, read).ok()
 }
 
-/// What the coordinator answers with. None is want of memory.
+/// What the coordinator needs to answer the last frame. None means that memory was refused.
 fn coordinator_of(
     alloc: Global,
     settings: Settings,
@@ -156,7 +157,7 @@ fn coordinator_of(
 }
 
 impl Receivers {
-    /// What takes from the queues. None is want of memory, or a share that is missing.
+    /// The receiving ends. None means that memory was refused or a share is missing.
     pub fn into_ends<T: Ledgers>(
         self,
         alloc: Global,

@@ -1,4 +1,4 @@
-//! The queues of a session, and all that its threads need.
+//! The queues of a session, and everything that its threads need.
 
 ghost use Rattle.std.specs.Prelude.{◌≡◌, ◌<◌, ◌≤◌, ◌+◌, [], false, length, map, Some, IfSome, vec_len, vec_capacity};
 ghost use Rattle.std.specs.List.{All, range_with_len};
@@ -36,23 +36,23 @@ use std::sync::Wait;
 use std::thread::Threads;
 use table_shared::{LogEntry, Opening, Runs, SharedTable};
 
-/// What a session has before its queues, beside its workers.
+/// What a session has before its queues are made, apart from its workers.
 pub struct SessionParts<H: Drop, T: Ledgers, N: Opening, I: LinkIn + Drop, O: LinkOut + Drop> {
     pub rt: H,
     pub shared_table: SharedTable<T, N>,
     pub dirs: Dirs,
     pub link_in: I,
     pub link_out: O,
-    /// The writer's.
+    /// The writer's log.
     pub writes: ThreadLog<LogEntry<T>, Runs<N>>,
-    /// The coordinator's.
+    /// The coordinator's log.
     pub starts: ThreadLog<LogEntry<T>, Runs<N>>,
     pub shares: Shares<T>,
 }
 
 impl<H: Drop, T: Ledgers, N: Opening, I: LinkIn + Drop, O: LinkOut + Drop> Drop
     for SessionParts<H, T, N, I, O> {
-    // A call: else whoever drops it is checked for each of its parts.
+    // This is a call so that code that drops the value is not checked for each of its parts.
     fn drop(self) {
         let SessionParts {
             rt: _,
@@ -74,7 +74,7 @@ impl<
     I: LinkIn + Send + Drop + 'static,
     O: LinkOut + Send + Drop + 'static,
 > SessionParts<H, T, N, I, O> {
-    /// Runs a session by all that its threads need. None where a thread was wanting.
+    /// Runs a session with everything that its threads need. None means that a thread was refused.
     fn serve_ready<C: Calls + Send + Drop + 'static>(
         self,
         rt: &H,
@@ -154,7 +154,7 @@ impl<
     }
 }
 
-/// Runs a session by these workers. None where memory or a thread was wanting.
+/// Runs a session with these workers. None means that memory or a thread was refused.
 fn serve_by_workers<
     H: Threads + Wait + Send + Sync + Drop + 'static,
     T: Ledgers + Send + Sync + 'static,
@@ -212,7 +212,7 @@ fn serve_by_workers<
     session_parts.serve_ready(rt, alloc, senders, ends, passes, ready_workers, buffers)
 }
 
-/// Makes workers for the queues, and runs a session by them. None where memory or a thread was wanting.
+/// Makes workers for the queues, and runs a session with them. None means that memory or a thread was refused.
 fn serve_making_workers<
     H: Threads + Wait + Send + Sync + Drop + 'static,
     T: Ledgers + Send + Sync + 'static,
@@ -283,7 +283,7 @@ fn serve_making_workers<
     )
 }
 
-/// Makes the queues, and runs a session by them. None where memory or a thread was wanting.
+/// Makes the queues, and runs a session with them. None means that memory or a thread was refused.
 pub fn serve_queued<
     H: Threads + Wait + Send + Sync + Drop + 'static,
     T: Ledgers + Send + Sync + 'static,

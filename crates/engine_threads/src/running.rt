@@ -1,4 +1,4 @@
-//! All threads, from the first start to the last end.
+//! Running all threads of a session, from the first start to the last end.
 
 ghost use Rattle.std.specs.Prelude.{◌≡◌, ◌<◌, ◌≤◌, ◌+◌, [], length, map, false, Some, IfSome, vec_len, vec_capacity};
 ghost use Rattle.std.specs.List.{All, range_with_len};
@@ -43,13 +43,13 @@ pub struct SharedParts<H: Drop, T: Ledgers, N: Opening, I: LinkIn + Drop, O: Lin
     pub writer: Writer,
     pub link_out: O,
     pub kept: ThreadShare<T>,
-    /// The writer's.
+    /// The writer's log.
     pub thread_log: ThreadLog<LogEntry<T>, Runs<N>>,
 }
 
 impl<H: Drop, T: Ledgers, N: Opening, I: LinkIn + Drop, O: LinkOut + Drop> Drop
     for SharedParts<H, T, N, I, O> {
-    // A call: else whoever drops it is checked for each of its parts.
+    // This is a call so that code that drops the value is not checked for each of its parts.
     fn drop(self) {
         let SharedParts {
             rt: _,
@@ -65,7 +65,7 @@ impl<H: Drop, T: Ledgers, N: Opening, I: LinkIn + Drop, O: LinkOut + Drop> Drop
     }
 }
 
-/// Who works, and room for what all leave.
+/// The workers, and buffers for what is left of all threads.
 pub struct WorkerThreads<T: Ledgers, N: Opening, C: Calls + Drop> {
     pub ready_workers: Vec<ReadyWorker<T, N, C>>,
     pub handles: Vec<Working<T, N, C>>,
@@ -74,7 +74,7 @@ pub struct WorkerThreads<T: Ledgers, N: Opening, C: Calls + Drop> {
 }
 
 impl<T: Ledgers, N: Opening, C: Calls + Drop> Drop for WorkerThreads<T, N, C> {
-    // A call: else whoever drops it is checked for each of its parts.
+    // This is a call so that code that drops the value is not checked for each of its parts.
     fn drop(self) {
         let WorkerThreads {
             ready_workers: _,
@@ -92,7 +92,7 @@ impl<H: Drop, T: Ledgers, N: Opening, I: LinkIn + Drop, O: LinkOut + Drop> Share
     I,
     O,
 > {
-    /// Both roles at their beginning. None is want of memory.
+    /// Both roles at their beginning. None means that memory was refused.
     fn share<S: Source<I> + Sink<O>>(self, alloc: Global) -> Option<SharedState<H, T, N, I, O, S>>
         requires jobs { S.jobs ≡ Some (sends_on self.reader.to) }
         requires parts { (view self.reader.pass).parts + S.parted ≡ 8 }
@@ -128,7 +128,8 @@ impl<H: Drop, T: Ledgers, N: Opening, I: LinkIn + Drop, O: LinkOut + Drop> Share
     }
 }
 
-/// Starts a thread for each of the workers. Where one cannot be started, those that were end at once. Nothing is read before all stand.
+/// Starts a thread for each of the workers. If one cannot be started, those that were end at once. Nothing is read
+/// before all are started.
 fn start_workers<
     H: Threads + Wait + Send + Sync + Drop + 'static,
     T: Ledgers + Send + Sync + 'static,
@@ -155,6 +156,7 @@ fn start_workers<
     ensures len { vec_len result ≤ vec_len ready_workers }
 {
     let count = ready_workers.len();
+    // The reader's lock is held until all threads are started, so that no thread reads before that.
     let unread = common.reader.try_lock();
     let handles = start_all(rt, common, jobs, replies, settings, ready_workers, handles);
     if handles.len() != count {
@@ -170,7 +172,8 @@ impl<
     N: Opening + Send + Sync + 'static,
     C: Calls + Send + Drop + 'static,
 > WorkerThreads<T, N, C> {
-    /// Runs a session: starts its threads, waits for their end, and does what is left. None where memory or a thread was wanting.
+    /// Runs a session: starts its threads, waits for their end, and does what is left to do. None means that memory or
+    /// a thread was refused.
     pub fn run<
         H: Threads + Wait + Send + Sync + Drop + 'static,
         I: LinkIn + Send + Drop + 'static,
@@ -241,7 +244,7 @@ impl<
         if !are_all {
             return None;
         }
-        // All threads have ended, so it is the last.
+        // All threads have ended, so this is the last reference.
         let common = Arc::into_inner(common)?;
         Some(finisher.end_all(rt, common, jobs, replies, ended))
     }

@@ -33,14 +33,14 @@ use std::thread::Threads;
 use table::{Counts, Limits, Seeds, Table};
 use table_shared::{LogEntry, Opening};
 
-/// Both ends of the way to a client.
+/// Both directions of the connection to a client.
 #[derive(Drop)]
 struct Links<I: LinkIn + Drop, O: LinkOut + Drop> {
     link_in: I,
     link_out: O,
 }
 
-/// Both ends, and what the threads share that needs no table.
+/// Both directions, and what the threads share that does not depend on the table.
 struct SessionBase<H: Drop, I: LinkIn + Drop, O: LinkOut + Drop> {
     rt: H,
     dirs: Dirs,
@@ -49,7 +49,7 @@ struct SessionBase<H: Drop, I: LinkIn + Drop, O: LinkOut + Drop> {
 }
 
 impl<H: Drop, I: LinkIn + Drop, O: LinkOut + Drop> Drop for SessionBase<H, I, O> {
-    // A call: else whoever drops it is checked for each of its parts.
+    // This is a call so that code that drops the value is not checked for each of its parts.
     fn drop(self) {
         let SessionBase {
             rt: _,
@@ -60,7 +60,7 @@ impl<H: Drop, I: LinkIn + Drop, O: LinkOut + Drop> Drop for SessionBase<H, I, O>
     }
 }
 
-/// None is want of memory.
+/// None means that memory was refused.
 fn session_base_of<H: Clone + Drop, I: LinkIn + Drop, O: LinkOut + Drop>(
     rt: &H,
     alloc: Global,
@@ -79,7 +79,7 @@ fn session_base_of<H: Clone + Drop, I: LinkIn + Drop, O: LinkOut + Drop>(
     })
 }
 
-/// Removes the files that are still hidden by the directory that is left, and adds up the shares.
+/// Removes the files that are still hidden, through the directory that is left, and adds up the shares.
 fn conclude<T: Ledgers, N: Opening, C: Calls + Drop>(over: Over<T, N, C>) -> Option<Account>
     requires taken { 0 < vec_len over.taken }
     requires counted { over.taken.items ≡ map (λ js. length js) (takings_of over.passed.passes.value.items) }
@@ -100,7 +100,7 @@ fn conclude<T: Ledgers, N: Opening, C: Calls + Drop>(over: Over<T, N, C>) -> Opt
     Some(Account::new(sums, taken, passed))
 }
 
-/// How a session ended: a link that broke ends it, whatever else did. None where nothing did.
+/// How a session ended: if the link broke, that is the end, whatever else happened. None means that nothing ended it.
 fn end_of(input: Option<SessionEnd>, is_broken: bool) -> Option<SessionEnd>
     ensures { IfSome result (EndsAs input is_broken) }
 {
@@ -111,7 +111,7 @@ fn end_of(input: Option<SessionEnd>, is_broken: bool) -> Option<SessionEnd>
     }
 }
 
-/// What was served, with how the session ended. One that nothing ended was not served.
+/// What was served, with how the session ended. If nothing ended it, it counts as not served.
 fn ended_by(account: Account) -> Ended
     ensures end { IfSome result.account (λ a. (a ≡ account) × EndsAs a.passed.input a.passed.is_broken result.end) }
     ensures lost { IfNone result.account (result.end ≡ end.Memory) }
@@ -131,7 +131,8 @@ impl<
     I: LinkIn + Send + Drop + 'static,
     O: LinkOut + Send + Drop + 'static,
 > SessionBase<H, I, O> {
-    /// Serves with a table that was just opened, whose history is named. None where memory or a thread was wanting.
+    /// Serves with a table that was just opened, and the name of its history. None means that memory or a thread was
+    /// refused.
     fn serve_opened<
         T: Ledgers + Send + Sync + 'static,
         N: Opening + Send + Sync + 'static,
@@ -193,7 +194,7 @@ impl<
     }
 }
 
-/// Serves with a table whose ledgers are named. None where memory or a thread was wanting.
+/// Serves with a table and the name of its ledgers. None means that memory or a thread was refused.
 fn serve_table<
     H: Threads + Wait + Clone + Send + Sync + Drop + 'static,
     T: Ledgers + Send + Sync + 'static,
@@ -232,9 +233,9 @@ fn serve_table<
     )
 }
 
-/// Serves a client until its session ends, by one thread for each of 1 to 4 directories. Each takes whatever turn is due: it offers the
-/// replies that are ready, works on a job, or reads. With any other number of directories nothing is read. The directories should show
-/// one tree.
+/// Serves a client until its session ends, with one thread for each of 1 to 4 directories. Each thread takes whichever
+/// turn is due: it offers the replies that are ready, works on a job, or reads. With any other number of directories
+/// nothing is read. The directories should show one tree.
 pub fn serve_threads<
     H: Threads + Wait + Clone + Send + Sync + Drop + 'static,
     I: LinkIn + Send + Drop + 'static,

@@ -1,4 +1,4 @@
-//! What the threads of a session share.
+//! The state that the threads of a session share.
 
 use engine::{LinkIn, LinkOut};
 use engine_turns::{ReaderRole, Sink, Sleepers, Source, WriterRole};
@@ -11,31 +11,33 @@ use table_shared::{Opening, SharedTable};
 /// What threads tell one another without a lock.
 #[derive(Drop)]
 pub struct Signs {
-    /// Whether there may be replies that nobody offers yet.
+    /// Whether there may be replies that nobody has offered yet.
     pub is_ready: AtomicBool,
     /// Whether the writer saw the link break.
     pub is_broken: AtomicBool,
     /// Whether no more jobs will be queued.
     pub is_over: AtomicBool,
-    /// How many receives have ended.
+    /// How many receives were made.
     pub receives: AtomicU64,
     /// How many jobs were queued.
     pub queued: AtomicU64,
-    /// How many of them were worked on.
+    /// How many jobs were worked on.
     pub worked: AtomicU64,
-    /// How often of late a receive found that a request had waited there: each that does counts four, each other one less.
+    /// How often recent receives found that a request had been waiting: each that does adds four, each other one
+    /// subtracts one.
     pub backlog: AtomicU64,
-    /// Whether jobs take long: few were worked on while a thread watched, though there were some.
+    /// Whether jobs take long: few were worked on while a thread watched, although there were some.
     pub is_slow: AtomicBool,
 }
 
-/// Fewer jobs than this that are worked on in the millisecond of a thread that watches are few.
+/// If fewer jobs than this are worked on in the millisecond of a watching thread, they are few.
 const FEW: u64 = 16;
 
-/// Above this, which is so where more than one receive in five finds a request waiting, threads are wanted that receive.
+/// Above this value, which is reached if more than one receive in five finds a request waiting, more threads should
+/// receive.
 const BACKLOG: u64 = 16;
 
-/// What it is counted up to.
+/// The maximum of that count.
 const MOST_BACKLOG: u64 = 64;
 
 impl Signs {
@@ -64,13 +66,13 @@ impl Signs {
         self.is_over.load(Ordering::SeqCst)
     }
 
-    /// A receive has ended, which queued so many jobs.
+    /// Counts a receive, which queued that many jobs.
     pub fn tell_received(&self, queued: u64) {
         self.queued.fetch_add(queued, Ordering::SeqCst);
         self.receives.fetch_add(1, Ordering::SeqCst);
     }
 
-    /// A job was worked on, and its reply may be there.
+    /// Counts a job that was worked on. There may be a reply to it.
     pub fn tell_worked(&self) {
         self.worked.fetch_add(1, Ordering::SeqCst);
         self.tell_ready();
@@ -81,18 +83,18 @@ impl Signs {
         self.worked.load(Ordering::SeqCst)
     }
 
-    /// Whether jobs are queued or worked on.
+    /// Whether jobs are queued or being worked on.
     pub fn is_busy(&self) -> bool {
         self.queued.load(Ordering::SeqCst) != self.worked()
     }
 
-    /// A thread has watched, before which so many jobs were worked on.
+    /// Notes whether jobs take long, after a thread has watched; `before` is how many were worked on before that.
     pub fn tell_watched(&self, before: u64) {
         let is_slow = self.is_busy() && self.worked().wrapping_sub(before) < FEW;
         self.is_slow.store(is_slow, Ordering::SeqCst);
     }
 
-    /// What a receive brought had waited there, or not. Receives are made one after another.
+    /// Notes whether the request of a receive had been waiting. Receives are made one after another.
     pub fn tell_backlog(&self, was_waiting: bool) {
         let before = self.backlog.load(Ordering::SeqCst);
         let after = if was_waiting {
@@ -103,7 +105,7 @@ impl Signs {
         self.backlog.store(after, Ordering::SeqCst);
     }
 
-    /// Whether requests wait where they are received, by what receives of late found.
+    /// Whether requests wait to be received, judged by recent receives.
     pub fn has_backlog(&self) -> bool {
         self.backlog.load(Ordering::SeqCst) > BACKLOG
     }
@@ -114,7 +116,8 @@ impl Signs {
     }
 }
 
-/// What all threads of a session share. Both roles are only ever tried: who finds one taken goes on to another turn.
+/// What all threads of a session share. A thread usually only tries the locks of the two roles: if one is taken, it
+/// goes on to another turn.
 #[derive(Drop)]
 pub struct Common<
     H: Drop,

@@ -21,14 +21,14 @@ use std::thread;
 use std::thread::{Promise, PromisedHandle, Threads};
 use table_shared::Opening;
 
-/// What a worker's thread keeps.
+/// What is kept of a worker's thread.
 #[derive(Drop)]
 pub struct WorkerKeeps<C> {
     pub number: u64,
     pub settings: Settings,
     pub jobs: Snapshot<JobSender<Job>>,
     pub replies: Snapshot<ReplySender<JobReply>>,
-    /// The directory that it is given.
+    /// The directory that it was given.
     pub calls: Snapshot<C>,
 }
 
@@ -43,7 +43,7 @@ impl<T: Ledgers, N: Opening, C: Calls + Drop> Promise<WorkerEnd<T, N, C>> for Wo
 
 pub type Working<T, N, C> = PromisedHandle<WorkerEnd<T, N, C>, WorkerKeeps<C>>;
 
-/// Starts a worker. None where no thread can be made.
+/// Starts a worker. None means that no thread can be made.
 fn start_one<
     H: Threads + Wait + Send + Sync + Drop + 'static,
     T: Ledgers + Send + Sync + 'static,
@@ -78,7 +78,7 @@ fn start_one<
     }
 }
 
-/// Starts the workers. Where a thread cannot be made, the others are not started.
+/// Starts the workers. If a thread cannot be made, the remaining ones are not started.
 pub fn start_all<
     H: Threads + Wait + Send + Sync + Drop + 'static,
     T: Ledgers + Send + Sync + 'static,

@@ -13,7 +13,7 @@ use std::alloc::Global;
 use table::Table;
 use table_shared::{LogEntry, Opening, Runs, SharedTable};
 
-/// The logs of the workers by their numbers, of the coordinator, and of the writer.
+/// The logs of the workers in order of their numbers, of the coordinator, and of the writer.
 #[derive(Drop)]
 pub struct ThreadLogs<T: Ledgers, N: Opening> {
     pub workers: Vec<ThreadLog<LogEntry<T>, Runs<N>>>,
@@ -22,7 +22,8 @@ pub struct ThreadLogs<T: Ledgers, N: Opening> {
 }
 
 impl<T: Ledgers, N: Opening> ThreadLogs<T, N> {
-    /// The logs of all threads of a shared table, which stand by their indices. None where they are not two more than the workers.
+    /// The logs of all threads of a shared table, in order of their indices. None means that there are not two more
+    /// than workers.
     pub fn new(thread_logs: Vec<ThreadLog<LogEntry<T>, Runs<N>>>) -> Option<ThreadLogs<T, N>>
         ensures workers { (count : ℕ) → thread_logs.items ≡ map (λ index. thread_log index [] []) (range_with_len 0 (count + 2)) → IfSome result (λ f. map on_table_of f.workers.items ≡ map idle (range_with_len 0 count)) }
         ensures coordinator { (count : ℕ) → thread_logs.items ≡ map (λ index. thread_log index [] []) (range_with_len 0 (count + 2)) → IfSome result (λ f. on_table_of f.coordinator ≡ idle count) }
@@ -39,7 +40,8 @@ impl<T: Ledgers, N: Opening> ThreadLogs<T, N> {
     }
 }
 
-/// What the threads share of a table that was just opened, and the log of each. None is want of memory.
+/// The threads' shared state of a table that was just opened, and the log of each thread. None means that memory was
+/// refused.
 pub fn shared_table_of<T: Ledgers, N: Opening>(
     alloc: Global,
     opened: Opened<LogEntry<T>>,

@@ -1,4 +1,4 @@
-//! The turns that a thread looks for: replies that are ready come first, then jobs, and a receive comes last.
+//! The turns that a thread looks for: first replies that are ready, then jobs, and last a receive.
 
 ghost use Rattle.std.specs.Prelude.{◌≡◌, List, Option};
 ghost use Rattle.crossbeam_channel.specs.Claims.{view};
@@ -19,11 +19,12 @@ use std::sync::atomic::Ordering;
 use std::sync::{MutexGuard, Wait};
 use table_shared::{Opening, SharedTable};
 
-/// How many jobs a thread works on before it has to see that none of their replies waits. They go out together then. Four threads leave no
-/// more replies than their queue has places, so nobody waits for a place there: where all threads did, nobody would be left who offers.
+/// How many jobs a thread works on before it must make sure that none of their replies is still waiting. They are then
+/// offered together. Four threads leave no more replies than their queue has room for, so no thread waits for room
+/// there: if all threads did, none would be left to offer replies.
 pub const JOINED: usize = 8;
 
-/// The writer. Who has to offer waits for it, and others get it only where nobody has it.
+/// Locks the writer. A thread that must offer waits for the lock; others get it only if it is free.
 fn writer_of<
     'a,
     H: Wait + Drop,
@@ -43,7 +44,7 @@ fn writer_of<
     }
 }
 
-/// Offers what is queued, until nothing is left. Whether there was any.
+/// Offers what is queued, until nothing is left. Returns whether there was anything.
 pub fn offer_queued<H: Wait, T: Ledgers, N: Opening, O: LinkOut + Drop, S: Sink<O>>(
     rt: &H,
     shared_table: &SharedTable<T, N>,
@@ -62,8 +63,9 @@ pub fn offer_queued<H: Wait, T: Ledgers, N: Opening, O: LinkOut + Drop, S: Sink<
     is_any
 }
 
-/// Offers the replies that are ready, unless another thread does; a thread that left as many as it may waits for that one. Whether it took
-/// any. Once it had the writer, none that it left before waits.
+/// Offers the replies that are ready, unless another thread does; a thread that has left as many as it may waits for
+/// that one. Returns whether it offered any. After a thread has had the writer, none of the replies that it left before
+/// is still waiting.
 fn offer<
     H: Wait + Drop,
     T: Ledgers,
@@ -78,10 +80,10 @@ fn offer<
         return false;
     }
     let Some(mut writer) = writer_of(common, has_to) else {
-        // Who has it looks again at the sign once it has let go.
+        // The thread that has the writer checks the flag again after it has released the lock.
         return false;
     };
-    // Before the look into the queue: what is put after it is told anew.
+    // This comes before the queue is read: whatever is put later sets the flag again.
     signs.is_ready.store(false, Ordering::SeqCst);
     let is_any = offer_queued(&common.rt, &common.shared_table, &common.dirs, &mut *writer);
     if writer.writer.is_broken {
@@ -91,7 +93,7 @@ fn offer<
     is_any
 }
 
-/// Makes one receive, unless another thread does, and wakes others for what came. Whether it was made.
+/// Makes one receive, unless another thread does, and wakes others for what came. Returns whether it was made.
 pub fn read<
     H: Wait + Drop,
     T: Ledgers,
@@ -106,10 +108,11 @@ pub fn read<
     let Some(mut reader) = common.reader.try_lock() else {
         return false;
     };
-    // A receive takes as long as it takes: who is in it is not to be woken.
+    // A receive may take long, and a thread that is receiving must not be woken.
     common.sleepers.get_up(number);
     let before = reader.reader.next;
-    // Nothing is read once the writer saw the link break.
+    // Nothing is read after the writer saw the link break, so a session whose client reads no more ends at the next
+    // receive.
     let is_broken = common.signs.is_broken.load(Ordering::SeqCst);
     if !is_broken {
         reader.turn(&common.rt);
@@ -120,16 +123,17 @@ pub fn read<
     common.signs.tell_backlog(was_waiting);
     drop(reader);
     if was_waiting && common.signs.has_backlog() {
-        // Nobody receives what may still wait there while this thread works.
+        // While this thread works, nobody receives what may still be waiting there.
         common.sleepers.wake(1);
     }
     tell_read(common, queued, has_ended);
     true
 }
 
-/// Wakes those who may have something to do after a receive: all, where the session has ended; one for each job, where jobs take long; and
-/// else one where something came and nobody would look by itself. Jobs that are short are worked off by the one who read them, without a
-/// wake-up, and for the first that takes long who watches comes within a millisecond.
+/// Wakes the threads that may have something to do after a receive: all of them if the session has ended; one for each
+/// job if jobs take long; otherwise one if something came and no thread would look by itself. Short jobs are handled by
+/// the thread that read them, without a wake-up; if one takes long, the watching thread takes over within a
+/// millisecond.
 fn tell_read<
     H: Drop,
     T: Ledgers,
@@ -151,8 +155,8 @@ fn tell_read<
     }
 }
 
-/// Offers what is ready, and works on the jobs that are queued, a few at most. Whether there was something to do. On so many jobs this thread
-/// has worked since it had the writer.
+/// Offers what is ready, and works on some of the queued jobs. Returns whether there was something to do. `left` is how
+/// many jobs this thread has worked on since it had the writer.
 pub fn take_turns<
     'a,
     H: Wait + Drop,

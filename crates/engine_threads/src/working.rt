@@ -1,4 +1,4 @@
-//! What each thread runs, from its start to its end.
+//! What each thread runs, from its beginning to its end.
 
 ghost use Rattle.std.specs.Prelude.{◌≡◌};
 ghost use Rattle.crossbeam_channel.specs.Ends.{sends_on, receives_on};
@@ -28,7 +28,7 @@ pub struct ReadyWorker<T: Ledgers, N: Opening, C: Calls + Drop> {
 }
 
 impl<T: Ledgers, N: Opening, C: Calls + Drop> Drop for ReadyWorker<T, N, C> {
-    // A call: else whoever drops it is checked for each of its parts.
+    // This is a call so that code that drops the value is not checked for each of its parts.
     fn drop(self) {
         let ReadyWorker {
             worker: _,
@@ -39,34 +39,35 @@ impl<T: Ledgers, N: Opening, C: Calls + Drop> Drop for ReadyWorker<T, N, C> {
     }
 }
 
-/// What a worker leaves.
+/// What is left of a worker.
 #[derive(Drop)]
 pub struct WorkerEnd<T: Ledgers, N: Opening, C: Calls + Drop> {
     /// The directory that it was given.
     pub given: Snapshot<C>,
     pub passes: Passes<Job, JobReply>,
-    /// How many of its replies were handed back.
+    /// How many of its replies the queue returned.
     pub handed_back: u64,
     pub kept: ThreadShare<T>,
     pub thread_log: ThreadLog<LogEntry<T>, Runs<N>>,
     pub calls: C,
 }
 
-/// How far a thread that finds nothing to do is from sleep.
+/// How close to sleeping a thread is that finds nothing to do.
 #[derive(Drop)]
 struct Rest {
     number: usize,
-    /// Whether others know that it is about to sleep.
+    /// Whether it has announced that it will sleep.
     is_lying: bool,
-    /// Whether it has slept and did nothing since.
+    /// Whether it has slept, and has done nothing since.
     has_slept: bool,
-    /// How many receives had ended when it slept last.
+    /// How many receives had been made when it last slept.
     seen: u64,
-    /// How often it looked in vain since it did something or slept.
+    /// How often it has looked in vain since it did something or slept.
     looks: u32,
 }
 
-/// How often a thread looks in vain before it sleeps, while requests wait for those who receive: to sleep and to be woken takes longer.
+/// How often a thread looks in vain before it sleeps, while requests are waiting to be received: being put to sleep and
+/// woken takes longer.
 const LOOKS: u32 = 200;
 
 impl Rest {
@@ -80,7 +81,8 @@ impl Rest {
         }
     }
 
-    /// It looks again. Where it comes out of its sleep and there are jobs, another is to watch before it takes one, for that may take long.
+    /// It looks again. If it has just been asleep and there are jobs, another thread must watch before this one takes a
+    /// job, which may take long.
     fn look<
         H: Drop,
         T: Ledgers,
@@ -95,7 +97,7 @@ impl Rest {
         self.has_slept = false;
     }
 
-    /// It found something to do.
+    /// It has found something to do.
     fn rise<
         H: Drop,
         T: Ledgers,
@@ -111,8 +113,9 @@ impl Rest {
         }
     }
 
-    /// It found nothing to do: it looks again if requests wait; else it says that it will sleep, or sleeps if it had said so. While something is received one such thread looks
-    /// again by itself, for a call of another may keep that one from the next receive.
+    /// It has found nothing to do. If requests are waiting, it looks again; otherwise it announces that it will sleep,
+    /// or sleeps if it has announced it. As long as something comes, one sleeping thread watches, that is, looks again
+    /// by itself: a call may keep another thread from making the next receive.
     fn sink<
         H: Wait + Drop,
         T: Ledgers,
@@ -170,7 +173,7 @@ impl<T: Ledgers, N: Opening, C: Calls + Drop> ReadyWorker<T, N, C> {
         let mut rest = Rest::new(number);
         let mut left = 0;
         for _ in common.rt.forever() {
-            // Before the turns: once it is over nothing more comes.
+            // This is read before the turns: after the session is over nothing more comes.
             let is_over = common.signs.is_over();
             rest.look(&common);
             if take_turns(

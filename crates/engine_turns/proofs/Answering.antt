@@ -43,7 +43,7 @@ right_of does settings job old new said turn_end bytes m is = by_offer m.turn.of
     left_is = refl;
   }
 
--- the share stays where the reply is put
+-- the share does not change if the reply is queued
 pub met_on : {C D : Type 0} (does : Behaviour C D) (settings : Settings) (job : Job) (old : Means C D) (served : Served C D) (mid after : Part) (handled : OnTable) (met : Met)
     → MeetsJob does settings job old met (means served mid handled) → after.totals.entries ≡ mid.totals.entries → after.index ≡ mid.index → MeetsJob does settings job old met (means served after handled)
 met_on does settings job old served mid after handled met m e i = record {
@@ -54,7 +54,7 @@ met_on does settings job old served mid after handled met m e i = record {
   gains = record { entries = (let g = m.gains.entries in omega arith); index = i ∙ m.gains.index; by_is = m.gains.by_is };
 }
 
--- the settle that a turn tells
+-- the settle that a turn reports
 abbrev pub settled_by : Turn → Option Settlement
 settled_by (Worked settled) = settled
 settled_by Nothing = None
@@ -67,6 +67,6 @@ left_by (Some queued_reply) = queued_reply.reply.left
 pub none_more : (on_table : OnTable) → on_table ≡ then_all on_table []
 none_more on_table = ap (λ (cs : List Call). record { by = on_table.by; calls = cs }) (sym (append-nil on_table.calls))
 
--- what was done after what was done
+-- further calls after those so far
 pub and_more : (old mid new : OnTable) (first next : List Call) → mid ≡ then_all old first → new ≡ then_all mid next → new ≡ then_all old (first ++ next)
 and_more old mid new first next m n = n ∙ (ap (λ (o : OnTable). then_all o next) m ∙ ap (λ (cs : List Call). record { by = old.by; calls = cs }) (append_assoc old.calls first next))

@@ -1,4 +1,4 @@
--- Replies that are taken, offered and settled together are as if that was done one by one.
+-- Taking, offering and settling replies together is the same as doing it one by one.
 use Rattle.std.proofs.Common.{◌≡◌, ℕ, suc, ◌+◌, ◌-◌, Bool, true, false, List, [], ◌∷◌, ◌++◌, length, map, get_or, take, drop, ◌<◌, Option, Some, None, refl, sym, ap, ◌∙◌, subst, append-nil, arith}
 use Rattle.std.proofs.lemmas.Grind.{flat_map-append}
 use Rattle.std.proofs.lemmas.List.{get_or-drop, length-take-le, map-append, take_more}
@@ -89,7 +89,7 @@ settled_next keeps old mid new before between after lefts firsts sents settled s
 
 -- ---- all together
 
--- the last that was offered, but for one before it that did not break the link
+-- the last that was offered, with one before it that did not break the link
 last_on : (first : Sent) (sents : List Sent) → is_broken first ≡ false → is_broken (last_of (first ∷ sents)) ≡ is_broken (last_of sents)
 last_on first [] e = let a : 1 - 1 ≡ 0 = omega arith in ap (λ (i : ℕ). is_broken (get_or (first ∷ []) i Untaken)) a ∙ e
 last_on first (next ∷ sents) e =
@@ -102,7 +102,7 @@ last_broken : (sents : List Sent) → sents ≡ [] → is_broken (last_of (Broke
 last_broken [] e = let a : 1 - 1 ≡ 0 = omega arith in ap (λ (i : ℕ). is_broken (get_or (Broken ∷ []) i Untaken)) a
 last_broken (sent ∷ sents) e = cc
 
--- places are counted without the first
+-- indices without the first element
 places_on : (first : Sent) (sents : List Sent) (place : ℕ) (lefts : List (Option Left)) (turns : List Ending) → SettlesEach (first ∷ sents) (suc place) lefts turns → SettlesEach sents place lefts turns
 places_on first sents place [] turns s = s
 places_on first sents place (left ∷ lefts) [] s = absurd s

@@ -1,5 +1,5 @@
--- What the roles of a session stand on may be sent. A `JobReply` holds a snapshot, so Rattle makes no such lemma of its own of
--- it, nor of what holds a sender or a receiver of replies.
+-- What the roles of a session consist of may be sent between threads. Since a `JobReply` contains a snapshot, Rattle
+-- does not generate this lemma for it, nor for what contains a sender or a receiver of replies.
 use denote.RattleType.{RattleType}
 use denote.Param.Send.{IsSend, IsSync, sendable}
 use Rattle.std.proofs.Crossing as heap
@@ -57,7 +57,7 @@ use Rattle.table_shared.specs.contracts.entries.RunsNamingLogEntry.TheImpl as na
 use Rattle.table_shared.specs.declared.entries.Opening as opening
 use Rattle.ledger.specs.declared.ledgers.Ledgers.{Ghosts}
 
--- a queue of messages X, whose passes are seen as V, under the rule P
+-- a queue of messages X, whose passes have views V, under the rule P
 module _ (X V P : RattleType) (p : protocol.Ghosts P.Denot X.Denot V.Denot) where
   abbrev queue : RattleType
   queue =

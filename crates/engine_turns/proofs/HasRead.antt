@@ -1,4 +1,4 @@
--- One receive more of a reader that has read so far.
+-- One more receive of a reader.
 use Rattle.std.proofs.Common.{◌≡◌, Bool, is_some, List, Option, Some, None}
 use Rattle.std.proofs.Math.Logic.{∥∥₁_map}
 use Rattle.engine.specs.Links.{Heard}

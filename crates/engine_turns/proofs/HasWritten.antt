@@ -1,4 +1,4 @@
--- More replies of a writer that has offered so far.
+-- More replies of a writer.
 use Rattle.std.proofs.Common.{◌≡◌, ℕ, Bool, false, List, [], ◌++◌, map, flat_map, Option, Some, refl, sym, ap₂, ◌∙◌}
 use Rattle.std.proofs.Math.Logic.{∥∥₁_map}
 use Rattle.std.proofs.lemmas.Grind.{flat_map-append}

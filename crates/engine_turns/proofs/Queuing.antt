@@ -1,4 +1,4 @@
--- One job more.
+-- One more job.
 use Rattle.std.proofs.Common.{◌≡◌, ℕ, List, [], ◌∷◌, ◌++◌, Option, Some, None, inl, inr, refl, sym, ap, ◌∙◌, subst, append_assoc, append-nil}
 use Rattle.wire.specs.Requests.{IsFramed}
 use Rattle.engine.specs.declared.ends.SessionEnd.{SessionEnd}
@@ -20,7 +20,7 @@ tells_on old now new t s = record { last_job_is = s.last_job_is ∙ t.last_job_i
 pub told_same : {old : Progress} → Tells old old.last_job old.handed_back
 told_same = record { last_job_is = refl; handed_back_is = refl }
 
--- what was told so far is what was told before
+-- what was reported before is still reported
 stops_on : (rest : List ℕ) (old now : Progress) (end : Option SessionEnd) (new : Progress) → Tells now old.last_job old.handed_back → Stops rest now end new → Stops rest old end new
 stops_on rest old now None new t s = (s.0, s.1, tells_on old now new t s.2)
 stops_on rest old now (Some (ends.Closed len)) new t s = s

@@ -1,4 +1,4 @@
--- What a receive brought, and what is kept of it.
+-- What a receive brought, and what is kept from it.
 use Rattle.std.proofs.Common.{◌≡◌, ℕ, ◌+◌, ◌↔◌, Bool, List, [], ◌++◌, length, take, drop, Option, Some, None, IfSome, IfNone, Result, Ok, Err, IfOk, inl, inr, refl, sym, ap, ◌∙◌, subst}
 use Rattle.std.proofs.Math.Logic.{∥∥₁_map}
 use Rattle.std.proofs.Math.Seq.{take-add}
@@ -9,11 +9,11 @@ use Rattle.wire.specs.declared.cutter.CutFault.{CutFault}
 use Rattle.wire.specs.declared.cutter.CutFault.TheVariants as fault
 use Rattle.engine_turns.specs.Verdicts.{KeepsNone, Progress, Queued, QueuesAll, Reads, and_then, with_unkept}
 
--- the bytes at the front, and those that came behind them
+-- the bytes at the front, followed by those that came after them
 pub front_grown : (old new : List ℕ) (from count : ℕ) → take from new ≡ take from old → take (from + count) new ≡ take from old ++ take count (drop from new)
 front_grown old new from count same = take-add from count new ∙ ap (λ (bytes : List ℕ). bytes ++ take count (drop from new)) same
 
--- a cutter that handed out something, or took a piece, was not stopped
+-- a cutter that returned something, or took bytes, was not stopped
 pub not_stopped : {A : Type 0} (k k' : Cutting) (told : A) (r : Result A CutFault) → r ≡ Ok told → ((len : ℕ) → (r ≡ Err (fault.BadLength len)) ↔ BeginsBadly k.kept len) → k'.stopped ≡ k.stopped → ∥ StoppedBy k.kept k.stopped ∥₁ → ∥ StoppedBy k'.kept k'.stopped ∥₁
 not_stopped k k' told r ok bad same by = ∥∥₁_map by (by_case k.stopped refl) where
   by_case : (o : Option ℕ) → k.stopped ≡ o → StoppedBy k.kept o → StoppedBy k'.kept k'.stopped
@@ -26,7 +26,7 @@ not_refused k k' told r ok bad same = ∣ by_case k.stopped refl ∣₁ where
   by_case None none = subst (λ (o : Option ℕ). StoppedBy k'.kept o) (sym (same ∙ none)) tt
   by_case (Some len) some = absurd (cc (sym ok ∙ (bad len).1 some))
 
--- one that is stopped met a length that no frame has
+-- one that is stopped met a length that no frame may have
 pub met_bad : (k : Cutting) (len : ℕ) → k.stopped ≡ Some len → ∥ StoppedBy k.kept k.stopped ∥₁ → ∥ BeginsBadly k.kept len ∥₁
 met_bad k len some by = subst (λ (o : Option ℕ). ∥ StoppedBy k.kept o ∥₁) some by
 
@@ -34,7 +34,7 @@ met_bad k len some by = subst (λ (o : Option ℕ). ∥ StoppedBy k.kept o ∥�
 pub stopped_so : (k k' : Cutting) (len : ℕ) → BeginsBadly k.kept len → k' ≡ record k { stopped = Some len } → ∥ StoppedBy k'.kept k'.stopped ∥₁
 stopped_so k k' len bad is = subst (λ (c : Cutting). ∥ StoppedBy c.kept c.stopped ∥₁) (sym is) ∣ bad ∣₁
 
--- whatever a cutter answered to whom asked for the next frame
+-- whatever a cutter answered when it was asked for the next frame
 pub stopped_after : {F : Type 0} (items : F → List ℕ) (k k' : Cutting) (r : Result (Option F) CutFault) → IfOk r (λ o. IfSome o (λ f. HandsOut k (items f) k')) → IfOk r (λ o. IfNone o (IsPartial k.kept × (k' ≡ k)))
     → ((len : ℕ) → (r ≡ Err (fault.BadLength len)) ↔ BeginsBadly k.kept len) → ((len : ℕ) → r ≡ Err (fault.BadLength len) → k' ≡ record k { stopped = Some len }) → (r ≡ Err fault.Memory → k' ≡ k)
     → ∥ StoppedBy k.kept k.stopped ∥₁ → ∥ StoppedBy k'.kept k'.stopped ∥₁
@@ -43,7 +43,7 @@ stopped_after items k k' (Ok None) frame none bad for_good memory by = subst (λ
 stopped_after items k k' (Err (fault.BadLength len)) frame none bad for_good memory by = stopped_so k k' len ((bad len).0 refl) (for_good len refl)
 stopped_after items k k' (Err fault.Memory) frame none bad for_good memory by = subst (λ (c : Cutting). ∥ StoppedBy c.kept c.stopped ∥₁) (sym (memory refl)) by
 
--- a piece was heard
+-- bytes were received
 module _ {L : Type 0} (receives : L → Heard → L → Type 0) (link link' : L) (old new : Progress) (end : Option SessionEnd) (bytes : List ℕ) (brought : receives link (Piece bytes) link') where
   pub reads_all : (before : Progress) → before ≡ and_then old bytes → QueuesAll before end new → Reads receives (record { link = link; so_far = old }) end (record { link = link'; so_far = new })
   reads_all before same all = record { heard = Piece bytes; brought = brought; reads = inl (subst (λ (p : Progress). QueuesAll p end new) same all) }
@@ -51,7 +51,7 @@ module _ {L : Type 0} (receives : L → Heard → L → Type 0) (link link' : L)
   pub keeps_none : KeepsNone old.kept end → new ≡ with_unkept old bytes → Reads receives (record { link = link; so_far = old }) end (record { link = link'; so_far = new })
   keeps_none why is = record { heard = Piece bytes; brought = brought; reads = inr (why, is) }
 
--- all that came is kept, or what was kept before
+-- all that came is kept, or only what was kept before
 module _ (agreed : Bool) (put : List Queued) (last_job handed_back : Option Queued) where
   abbrev pub got : (kept unkept : List ℕ) → Progress
   got kept unkept = record { kept = kept; unkept = unkept; agreed = agreed; put = put; last_job = last_job; handed_back = handed_back }

@@ -1,4 +1,4 @@
--- What a call of the shared table is to a table handle.
+-- What a call of the shared table means for a table handle.
 use Rattle.std.proofs.Common.{◌≡◌, ◌++◌, List, ap, ◌∙◌}
 use Rattle.shared_history.specs.declared.views.View.{View}
 use Rattle.table_shared.specs.declared.entries.LogEntry.{LogEntry}

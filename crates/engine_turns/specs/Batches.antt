@@ -1,4 +1,4 @@
--- Replies that a writer takes, offers and settles together: each as it does one.
+-- Replies that a writer takes, offers and settles together: the same as doing it one by one.
 use Rattle.std.specs.Prelude.{◌≡◌, ℕ, suc, ◌-◌, Bool, true, false, List, [], ◌∷◌, length, map, flat_map, get_or, Option, Some}
 use Rattle.handles.specs.Calls.{FolderCall}
 use Rattle.table_steps.specs.Answers.{Settlement}
@@ -18,7 +18,7 @@ use Rattle.engine_turns.specs.declared.replies.JobReply.{JobReply}
 
 -- ---- the turns
 
--- a writer between two turns: what it knows of the queue, its link, and whether that is broken
+-- a writer between two turns: what it knows of the queue, its link, and whether the link is broken
 pub record Writing (L : Type 0) : Type 0 where
   pub lane : ReplyLane JobReply
   pub link : L
@@ -27,7 +27,7 @@ pub record Writing (L : Type 0) : Type 0 where
 abbrev pub WritesOne : {L : Type 0} → (L → List ℕ → Sent → L → Type 0) → Writing L → Ending → Writing L → Type 0
 WritesOne sends old ending new = Wrote sends old.lane old.link old.is_broken ending new.lane new.link new.is_broken
 
--- all settles, all calls of the open folders, and all on the table
+-- all settles, all calls of the open folders, and all calls on the table
 pub record Endings : Type 0 where
   pub settled : List (Option Settlement)
   pub folders : List FolderCall
@@ -48,7 +48,7 @@ pub record WritesAll {L : Type 0} (sends : L → List ℕ → Sent → L → Typ
   pub chain : Chain (WritesOne sends) old turns new
   pub all_are : AreEndings all turns
 
--- ---- the same by kinds: all are taken from the queue, all are offered, all answers are settled
+-- ---- the same by kinds: all are taken from the queue, then all are offered, then all answers are settled
 
 abbrev pub GetsOne : ReplyLane JobReply → QueuedReply JobReply → ReplyLane JobReply → Type 0
 GetsOne lane queued_reply lane' = lane' ≡ got_of lane (Some queued_reply)
@@ -60,20 +60,20 @@ pub record GetsAll (lane : ReplyLane JobReply) (left : List (Option Left)) (byte
   pub left_are : left ≡ map (λ queued_reply. queued_reply.reply.left) queued_replies
   pub bytes_are : bytes ≡ map (λ queued_reply. queued_reply.reply.bytes) queued_replies
 
--- what became of the last that was offered
+-- what became of the last reply that was offered
 abbrev pub last_of : List Sent → Sent
 last_of sents = get_or sents (length sents - 1) Untaken
 
--- nothing is offered once the link broke
+-- nothing is offered after the link broke
 abbrev pub OffersAll : {L : Type 0} → (L → List ℕ → Sent → L → Type 0) → L → List (List ℕ) → (before : Bool) → List Sent → L → (after : Bool) → Type 0
 OffersAll sends link frames true sents link' after = (sents ≡ []) × (link' ≡ link) × (after ≡ true)
 OffersAll sends link frames false sents link' after = SendsEach sends link frames sents link' × (after ≡ is_broken (last_of sents))
 
--- whether the reply at that place was taken; one that was not offered was not
+-- whether the reply at that index was taken; one that was not offered was not
 abbrev pub taken_at : List Sent → ℕ → Bool
 taken_at sents n = is_taken (get_or sents n Untaken)
 
--- each answer is settled by what became of its own reply, the first by that at a place
+-- each answer is settled according to what became of its own reply; the first has that index
 abbrev pub SettlesEach : List Sent → (place : ℕ) → List (Option Left) → List Ending → Type 0
 SettlesEach sents place [] turns = turns ≡ []
 SettlesEach sents place (left ∷ lefts) [] = ⊥

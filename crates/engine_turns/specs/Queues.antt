@@ -1,4 +1,4 @@
--- The queues of a session, as their ends name them.
+-- The queues of a session, as named by their ends.
 use Rattle.std.specs.Prelude.{Option}
 use Rattle.std.specs.declared.alloc.Global.{Global}
 use Rattle.atomic_table.specs.declared.badge.Badge.{Badge}
@@ -16,7 +16,7 @@ use Rattle.engine_queues.specs.declared.replies.QueuedReply.{QueuedReply}
 use Rattle.engine_queues.specs.declared.replies.ReplyLane.{ReplyLane}
 use Rattle.engine_turns.specs.declared.replies.JobReply.{JobReply}
 
--- a queue of messages X, whose passes are seen as V, under the rule P
+-- a queue of messages X, whose passes have views V, under the rule P
 abbrev pub Queue : Type 0 → Type 0 → Type 0 → Type 0
 Queue X V P = Rows (Badge (Key X)) (Doing X V) (Rounds P) (Option X) (Key X) (Lockers Whole) Global
 

@@ -1,4 +1,4 @@
--- The right reply to a job: what the rules of a session say to its frame, where the table is behind a lock.
+-- The right reply to a job: what the rules of a session say about its frame, with the table behind a lock.
 use Rattle.std.specs.Prelude.{ℕ, ◌≡◌, Bool, List, Option, Some}
 use Rattle.wire.specs.Requests.{opcode_in}
 use Rattle.wire.specs.Written.{reply_bytes}
@@ -10,13 +10,14 @@ use Rattle.engine_turns.specs.TableCalls.{Fresh, OnTable, TurnEnd, left_in, know
 use Rattle.engine_queues.specs.declared.job.Job.{Job}
 use Rattle.engine_queues.specs.declared.left.Left.{Left}
 
--- what the rules say to a job, with the calls that were made for it and their answers: those on the table are added to what the thread did
+-- what the rules say about a job, with the calls that were made for it and their answers: those on the table are added
+-- to what the thread did
 pub record IsJobHandled (settings : Settings) (job : Job) (turn : Turn) (before : OnTable) (turn_end : TurnEnd) (after : OnTable) : Type 0 where
   pub frame_is : turn.frame ≡ job.frame.items
   pub now : Bool
   pub meets : HandlesFrame known_table settings job.agreed (class job.agreed (opcode_in turn.frame)) (record { turn_end = Fresh; on_table = before }) turn (record { turn_end = turn_end; on_table = after }) now
 
--- this offer, which was not made yet
+-- this reply, which was not offered yet
 pub record IsWritten (offer : Offer) (bytes : List ℕ) : Type 0 where
   pub bytes_are : bytes ≡ reply_bytes offer.reply
   pub sent : offer.sent ≡ Taken

@@ -1,4 +1,4 @@
--- Jobs as their frames and verdicts, and how far a reader has got, in its code.
+-- Jobs as frames with verdicts, and how far a reader is, as the code represents it.
 use Rattle.std.specs.Prelude.{List, map, take}
 use Rattle.std.specs.Option.{option_map}
 use Rattle.crossbeam_channel.specs.Claims.{view}

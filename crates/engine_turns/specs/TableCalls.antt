@@ -15,7 +15,7 @@ use Rattle.engine_queues.specs.declared.left.Left.{Left}
 use Rattle.engine_turns.specs.declared.table_handle.TurnResult.{TurnResult}
 use Rattle.engine_turns.specs.declared.table_handle.TurnResult.TheVariants as turn_result
 
--- ---- all that a thread did
+-- ---- everything that a thread did
 
 -- its index, and the calls that it made, in order
 pub record OnTable : Type 0 where
@@ -25,18 +25,18 @@ pub record OnTable : Type 0 where
 abbrev pub on_table_of : {L : Type 0} → View (LogEntry L) → OnTable
 on_table_of thread_log = record { by = thread_log.by; calls = calls_of thread_log.mine }
 
--- nothing yet
+-- nothing so far
 abbrev pub idle : ℕ → OnTable
 idle index = record { by = index; calls = [] }
 
--- these calls more
+-- with these further calls
 abbrev pub then_all : OnTable → List Call → OnTable
 then_all old calls = record { by = old.by; calls = old.calls ++ calls }
 
 abbrev pub then_made : OnTable → Call → OnTable
 then_made old call = then_all old (unless_busy call)
 
--- ---- what a turn has come to
+-- ---- the result of a turn
 
 pub data TurnEnd : Type 0 where
   Fresh : TurnEnd
@@ -79,28 +79,29 @@ pub record Known : Type 0 where
 abbrev pub known : {L : Type 0} → TurnResult → View (LogEntry L) → Known
 known turn_result thread_log = record { turn_end = turn_end_of turn_result; on_table = on_table_of thread_log }
 
--- what a settle tells
+-- the result of a settle
 abbrev pub settlement_of : Answer → (taken : Bool) → Settlement
 settlement_of answer taken = record { id = answer.id; entries = entries_in answer.given; taken = taken }
 
--- one that is taken is left to the writer
+-- an answer whose reply is queued is left to the writer
 abbrev pub settling : Known → Answer → (put : Option ℕ) → (taken : Bool) → Known
 settling old answer put true = record { turn_end = Leaves (record { answered = answer; put = put }); on_table = old.on_table }
 settling old answer put false = record { turn_end = Settled (settlement_of answer false); on_table = then_made old.on_table (settled answer false (settlement_of answer false)) }
 
--- a share gains the entries listed; it stays that of the same thread
+-- a share gains the listed entries; it remains that of the same thread
 pub record GainsListed (old : Known) (before : Part) (new : Known) (after : Part) : Type 0 where
   pub entries : after.totals.entries + listed old.turn_end ≡ before.totals.entries + listed new.turn_end
   pub index : after.index ≡ before.index
   pub by_is : new.on_table.by ≡ old.on_table.by
 
--- an error that is told has 32 bits
+-- an error that is returned has 32 bits
 abbrev pub HasBits : Begin → Type 0
 HasBits (begin.Go claim) = Unit {0}
 HasBits begin.Busy = Unit {0}
 HasBits (begin.Refused errno) = SFits w32 errno
 
--- Each call is the next of those that the thread made. Whether it led on as it must says the history in which all threads' calls stand.
+-- Each call is the next one that the thread made. Whether it was a correct step follows from the history, which has the
+-- calls of all threads.
 abbrev pub known_table : Table Known
 known_table = record {
   begins = λ old unique want told new. HasBits told × (new ≡ record { turn_end = old.turn_end; on_table = then_made old.on_table (began unique want told) });

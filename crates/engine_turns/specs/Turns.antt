@@ -29,12 +29,13 @@ use Rattle.engine_turns.specs.declared.replies.JobReply.{JobReply}
 
 -- ---- a worker
 
--- what is written for the turn's offer
+-- what is written for the reply of the turn
 abbrev pub Writes : Option Offer → Option (List ℕ) → Type 0
 Writes None bytes = bytes ≡ None
 Writes (Some offer) bytes = (bytes ≡ Some (reply_bytes offer.reply)) × (offer.sent ≡ Taken)
 
--- what a worker meets a job with: a directory and open folders, its share of the table's book, and what it did on the table
+-- what a worker handles a job with: a directory and open folders, its share of the table's book, and what it did on the
+-- table
 pub record Means (C D : Type 0) : Type 0 where
   pub served : Served C D
   pub share : Part
@@ -43,13 +44,13 @@ pub record Means (C D : Type 0) : Type 0 where
 abbrev pub means : {C D : Type 0} → Served C D → Part → OnTable → Means C D
 means served share on_table = record { served = served; share = share; on_table = on_table }
 
--- what has come of a job: the reply that is written, if one is, and what the calls on the table came to
+-- the results of a job: the reply that is written, if any, and what the calls on the table led to
 pub record Met : Type 0 where
   pub said : Option (List ℕ)
   pub turn_end : TurnEnd
 
--- A job is handled by the rules of a session: by these calls of the directory, of the open folders and on the table, of each in order and
--- each once. The share gains the entries of the answer that is left or settled.
+-- A job is handled by the rules of a session: with these calls of the directory, of the open folders and on the table,
+-- each in order and once. The share gains the entries of the answer that is left or settled.
 pub record MeetsJob {C D : Type 0} (does : Behaviour C D) (settings : Settings) (job : Job) (old : Means C D) (met : Met) (new : Means C D) : Type 0 where
   pub turn : Turn
   pub handled : IsJobHandled settings job turn old.on_table met.turn_end new.on_table
@@ -57,7 +58,7 @@ pub record MeetsJob {C D : Type 0} (does : Behaviour C D) (settings : Settings) 
   pub writes : Writes turn.offer met.said
   pub gains : GainsListed (record { turn_end = Fresh; on_table = old.on_table }) old.share (record { turn_end = met.turn_end; on_table = new.on_table }) new.share
 
--- the handle of the listing that was put for an answer
+-- the handle of the listing that was stored for an answer
 abbrev pub put_in : Option Left → Option ℕ
 put_in None = None
 put_in (Some left) = left.put
@@ -70,7 +71,7 @@ pub record IsReplyTo (settings : Settings) (from : ℕ) (job : Job) (bytes : Lis
   pub bytes_are : bytes_of queued_reply.reply.bytes ≡ bytes
   pub left_is : queued_reply.reply.left ≡ left_in turn_end
 
--- what a turn comes to: the settle of an answer, the calls of the open folders, and those on the table
+-- the end of a turn: the settle of an answer, the calls of the open folders, and those on the table
 pub record Ending : Type 0 where
   pub settled : Option Settlement
   pub folders : List FolderCall
@@ -79,7 +80,7 @@ pub record Ending : Type 0 where
 abbrev pub ending : Option Settlement → List FolderCall → List Call → Ending
 ending settled folders on_table = record { settled = settled; folders = folders; on_table = on_table }
 
--- what becomes of an answer that is left
+-- what happens to an answer that is left
 abbrev pub ended_as : Option Left → (taken : Bool) → Option Settlement
 ended_as None taken = None
 ended_as (Some left) taken = Some (settlement_of left.answered taken)
@@ -88,17 +89,17 @@ abbrev pub settles_of : Option Left → (taken : Bool) → List Call
 settles_of None taken = []
 settles_of (Some left) taken = made.settled left.answered taken (settlement_of left.answered taken) ∷ []
 
--- what is settled where the reply was handed back: what is left, as untaken
+-- what is settled if the reply was returned: what is left, as untaken
 abbrev pub untaken_in : TurnEnd → Option Settlement
 untaken_in turn_end = option_or (ended_as (left_in turn_end) false) (settled_in turn_end)
 
--- it is settled; a listing that was put for it is given up where its reply was not taken
+-- it is settled; if a listing was stored for it and its reply was not taken, the listing's handle is closed
 pub record IsEnded (left : Option Left) (taken : Bool) (did : Ending) : Type 0 where
   pub settled_is : did.settled ≡ ended_as left taken
   pub gives_up : GivesUp taken (put_in left) did.folders
   pub settles : did.on_table ≡ settles_of left taken
 
--- by these calls of the open folders and these on the table, and no others
+-- with these calls of the open folders and on the table, and no others
 pub record ByBoth {D : Type 0} (keeps : D → FolderCall → D → Type 0) (old : D) (before : OnTable) (new : D) (after : OnTable) (holds : List FolderCall → List Call → Type 0) : Type 0 where
   pub folders : List FolderCall
   pub chain : Chain keeps old folders new
@@ -106,7 +107,7 @@ pub record ByBoth {D : Type 0} (keeps : D → FolderCall → D → Type 0) (old 
   pub on_table : after ≡ then_all before calls
   pub so : holds folders calls
 
--- what a worker has put into the queue of replies, and how many of its replies that queue handed back
+-- what a worker has put into the reply queue, and how many of its replies that queue returned
 pub record Outbox : Type 0 where
   pub lane : ReplyLane JobReply
   pub handed_back : ℕ
@@ -114,8 +115,8 @@ pub record Outbox : Type 0 where
 abbrev pub outbox : ReplyLane JobReply → (handed_back : ℕ) → Outbox
 outbox lane handed_back = record { lane = lane; handed_back = handed_back }
 
--- Exactly one reply is put, or else the queue hands it back, which is counted; then its answer is settled as untaken, and a listing that was
--- put for it is given up. None is put or counted where nothing is written.
+-- Exactly one reply is put, or else the queue returns it, which is counted; then its answer is settled as untaken, and
+-- the handle of a listing that was stored for it is closed. If nothing is written, nothing is put or counted.
 pub data PutsReply (settings : Settings) (from : ℕ) (job : Job) (met : Met) (old : Outbox) (did : Ending) (new : Outbox) : Type 0 where
   is_put : (bytes : List ℕ) (queued_reply : QueuedReply JobReply) → met.said ≡ Some bytes → IsReplyTo settings from job bytes met.turn_end queued_reply → new ≡ outbox (queued_replies.put_of old.lane (Some queued_reply)) old.handed_back → did.settled ≡ settled_in met.turn_end → did.folders ≡ [] → did.on_table ≡ []
       → PutsReply settings from job met old did new
@@ -123,7 +124,8 @@ pub data PutsReply (settings : Settings) (from : ℕ) (job : Job) (met : Met) (o
       → PutsReply settings from job met old did new
   none : met.said ≡ None → new ≡ old → did.settled ≡ settled_in met.turn_end → did.folders ≡ [] → did.on_table ≡ [] → PutsReply settings from job met old did new
 
--- where a worker stands: what it has taken from the queue of jobs, what became of its replies at theirs, and what it meets jobs with
+-- the state of a worker: what it has taken from the job queue, what became of its replies, and what it handles jobs
+-- with
 pub record Standing (C D : Type 0) : Type 0 where
   pub hand : Hand Job
   pub out : Outbox
@@ -136,7 +138,7 @@ standing taken out means = record { hand = taken; out = out; means = means }
 abbrev pub takes : {C D : Type 0} → Standing C D → Job → Standing C D
 takes old job = record { hand = taken_of old.hand (Some job); out = old.out; means = old.means }
 
--- a job was handled, and then answered; none was taken
+-- a job was handled and then answered, without being taken from the queue
 pub record AnswersJob {C D : Type 0} (does : Behaviour C D) (settings : Settings) (from : ℕ) (job : Job) (old : Standing C D) (settled : Option Settlement) (new : Standing C D) : Type 0 where
   pub met : Met
   pub between : D
@@ -152,14 +154,14 @@ pub record Worked {C D : Type 0} (does : Behaviour C D) (settings : Settings) (f
 
 -- ---- the writer
 
--- its bytes are offered, and once
+-- its bytes are offered, once
 pub record OffersBytes {L : Type 0} (sends : L → List ℕ → Sent → L → Type 0) (queued_reply : QueuedReply JobReply) (did : Ending) (link link' : L) (broken : Bool) : Type 0 where
   pub sent : Sent
   pub offer : sends link (bytes_of queued_reply.reply.bytes) sent link'
   pub ends : IsEnded queued_reply.reply.left (is_taken sent) did
   pub broken_is : broken ≡ is_broken sent
 
--- nothing is offered once the link broke
+-- nothing is offered after the link broke
 pub record OffersNothing {L : Type 0} (queued_reply : QueuedReply JobReply) (did : Ending) (link link' : L) (broken : Bool) : Type 0 where
   pub link_is : link' ≡ link
   pub ends : IsEnded queued_reply.reply.left false did
@@ -169,7 +171,7 @@ abbrev pub Offers : {L : Type 0} → (L → List ℕ → Sent → L → Type 0) 
 Offers sends queued_reply did link link' true broken = OffersNothing queued_reply did link link' broken
 Offers sends queued_reply did link link' false broken = OffersBytes sends queued_reply did link link' broken
 
--- the first reply was taken and offered, and its answer settled
+-- the first reply was taken from the queue and offered, and its answer settled
 pub record Wrote {L : Type 0} (sends : L → List ℕ → Sent → L → Type 0) (lane : ReplyLane JobReply) (link : L) (before : Bool) (did : Ending) (lane' : ReplyLane JobReply) (link' : L) (after : Bool) : Type 0 where
   pub thread_log : QueuedReply JobReply
   pub got : lane' ≡ queued_replies.got_of lane (Some thread_log)

@@ -1,4 +1,4 @@
--- What the reader queues: the frames that it hears, each with the verdict of whether a version was agreed on before it.
+-- What the reader queues: the frames that it receives, each with the verdict whether a version was agreed on before it.
 use Rattle.std.specs.Prelude.{ℕ, ◌≡◌, ◌⊎◌, Bool, List, [], ◌∷◌, ◌++◌, length, Option, Some, None}
 use Rattle.wire.specs.Faults.{IsFirstFault}
 use Rattle.wire.specs.NextFrame.{IsWhole}
@@ -20,7 +20,7 @@ abbrev pub greeted : Option Negotiated → (before : Bool) → Bool
 greeted None before = before
 greeted (Some answer) before = agrees answer before
 
--- whether a version is agreed on after a frame: a lawful INIT that is in its place may agree on one
+-- whether a version is agreed on after a frame: only by a valid INIT, when none was agreed on before
 abbrev pub VerdictBy : Class → (before : Bool) → List ℕ → (now : Bool) → Type 0
 VerdictBy Ignored before frame now = now ≡ before
 VerdictBy Unexpected before frame now = now ≡ before
@@ -51,9 +51,9 @@ Queues kept agreed (job ∷ jobs) rest now =
     (job.agreed ≡ agreed) × IsFramed job.frame × (EndsSession agreed job.frame → ⊥)
     × ((mid : List ℕ) × (next : Bool) × (kept ≡ job.frame ++ mid) × IsVerdict agreed job.frame next × Queues mid next jobs rest now)
 
--- How far a reader has got with what it heard: the bytes that are in no frame yet, those that came behind them and could not be kept with them, the
--- verdict so far, what it has queued, the frame that ended the session, if one did, and the one that the queue handed back, if it did that. What was
--- received is in one of these.
+-- How far a reader is with what it received: the bytes that are in no frame yet; those that came after them and could
+-- not be kept with them; the verdict so far; what it has queued; the frame that ended the session, if one did; and the
+-- one that the queue returned, if it did. Everything received is in one of these.
 pub record Progress : Type 0 where
   pub kept : List ℕ
   pub unkept : List ℕ
@@ -62,19 +62,19 @@ pub record Progress : Type 0 where
   pub last_job : Option Queued
   pub handed_back : Option Queued
 
--- which frames are told and not queued
+-- the frames that are reported and not queued
 pub record Tells (new : Progress) (last_job handed_back : Option Queued) : Type 0 where
   pub last_job_is : new.last_job ≡ last_job
   pub handed_back_is : new.handed_back ≡ handed_back
 
--- there is no copy of the whole frame that comes next, and all is kept
+-- there is no copy of the next whole frame, and everything is kept
 pub record LacksCopy (rest : List ℕ) (old new : Progress) : Type 0 where
   pub len : ℕ
   pub whole : IsWhole rest len
   pub kept_is : new.kept ≡ rest
   pub tells : Tells new old.last_job old.handed_back
 
--- the frame that comes next was handed back, and what comes after it is kept
+-- the next frame was returned by the queue, and what comes after it is kept
 pub record IsHandedBack (rest : List ℕ) (old new : Progress) : Type 0 where
   pub frame : List ℕ
   pub front : rest ≡ frame ++ new.kept
@@ -82,7 +82,7 @@ pub record IsHandedBack (rest : List ℕ) (old new : Progress) : Type 0 where
   pub other : EndsSession new.agreed frame → ⊥
   pub tells : Tells new old.last_job (Some (record { agreed = new.agreed; frame = frame }))
 
--- why no more is queued, where these bytes come next; so far the old frames were told
+-- why no more is queued, if these bytes come next; the frames reported so far are the old ones
 abbrev pub Stops : (rest : List ℕ) → (old : Progress) → Option SessionEnd → Progress → Type 0
 Stops rest old None new = (new.kept ≡ rest) × IsPartial rest × Tells new old.last_job old.handed_back
 Stops rest old (Some (ends.Closed len)) new = ⊥
@@ -90,13 +90,13 @@ Stops rest old (Some (ends.Closed len)) new = ⊥
 Stops rest old (Some ends.Destroyed) new =
     (frame : List ℕ) × (rest ≡ frame ++ new.kept) × EndsSession new.agreed frame × Tells new (Some (record { agreed = new.agreed; frame = frame })) old.handed_back
 Stops rest old (Some (ends.BadLength len)) new = (new.kept ≡ rest) × BeginsBadly rest len × Tells new old.last_job old.handed_back
--- a link breaks where it is heard, and nowhere else
+-- a link breaks only at a receive
 Stops rest old (Some ends.LinkBroken) new = ⊥
--- which of both it was the frame that was handed back tells
+-- the returned frame shows which of both it was
 Stops rest old (Some ends.Memory) new = LacksCopy rest old new ⊎ IsHandedBack rest old new
 Stops rest old (Some ends.NoWorkers) new = ⊥
 
--- these bytes are worked through: which jobs join the queue
+-- these bytes are processed: which jobs are put into the queue
 pub record QueuesAll (old : Progress) (end : Option SessionEnd) (new : Progress) : Type 0 where
   pub jobs : List Queued
   pub rest : List ℕ
@@ -117,11 +117,12 @@ pub record Queueing (old new : Progress) : Type 0 where
 abbrev pub and_then : Progress → List ℕ → Progress
 and_then old bytes = record { kept = old.kept ++ (old.unkept ++ bytes); unkept = []; agreed = old.agreed; put = old.put; last_job = old.last_job; handed_back = old.handed_back }
 
--- the same, where they could not be kept
+-- the same, if they could not be kept
 abbrev pub with_unkept : Progress → List ℕ → Progress
 with_unkept old bytes = record { kept = old.kept; unkept = old.unkept ++ bytes; agreed = old.agreed; put = old.put; last_job = old.last_job; handed_back = old.handed_back }
 
--- Why bytes could not be kept: a length that no frame has stands before them, or memory was refused, of which the allocator alone knows.
+-- Why bytes could not be kept: a length that no frame may have comes before them, or memory was refused, which only the
+-- allocator knows.
 abbrev pub KeepsNone : (kept : List ℕ) → Option SessionEnd → Type 0
 KeepsNone kept None = ⊥
 KeepsNone kept (Some (ends.Closed len)) = ⊥
@@ -131,13 +132,13 @@ KeepsNone kept (Some ends.LinkBroken) = ⊥
 KeepsNone kept (Some ends.Memory) = Unit {0}
 KeepsNone kept (Some ends.NoWorkers) = ⊥
 
--- one receive, and what was queued after it; at the end of the input it is told how many bytes are kept
+-- one receive, and what was queued after it; at the end of the input the number of kept bytes is reported
 abbrev pub ReadsAs : Heard → Progress → Option SessionEnd → Progress → Type 0
 ReadsAs (Piece bytes) old end new = QueuesAll (and_then old bytes) end new ⊎ (KeepsNone old.kept end × (new ≡ with_unkept old bytes))
 ReadsAs Ended old end new = (end ≡ Some (ends.Closed (length old.kept))) × (new ≡ old)
 ReadsAs Broke old end new = (end ≡ Some ends.LinkBroken) × (new ≡ old)
 
--- where a reader stands: its link, and how far it has got
+-- the state of a reader: its link, and how far it is
 pub record Reading (L : Type 0) : Type 0 where
   pub link : L
   pub so_far : Progress
@@ -154,7 +155,7 @@ pub data ReadsOn {L : Type 0} (receives : L → Heard → L → Type 0) (old : R
   stays : (new : Reading L) → new ≡ old → ReadsOn receives old new
   goes : (mid new : Reading L) → ReadsOn receives old mid → Reads receives mid None new → ReadsOn receives old new
 
--- until one ended it so
+-- until one ended it like this
 pub record ReadsAll {L : Type 0} (receives : L → Heard → L → Type 0) (old : Reading L) (end : SessionEnd) (new : Reading L) : Type 0 where
   pub last : Reading L
   pub on : ReadsOn receives old last

@@ -22,15 +22,16 @@ use table_shared::{LogEntry, Opening, Runs, SharedTable};
 /// How many replies are offered together at most.
 pub const BATCH: usize = 16;
 
-/// Replies that were taken from their queue together. Its room is kept from one batch to the next, so that a batch takes no memory.
+/// Replies that were taken from the queue together. It allocates only when it is made, and its buffers are reused for
+/// each batch.
 #[derive(Drop)]
 pub struct Batch {
-    /// The answers that are left, until they are settled.
+    /// The answers that are still to be settled.
     left: Vec<Option<Left>>,
     bytes: Vec<ReplyBytes>,
-    /// What became of those that were offered.
+    /// What became of the replies that were offered.
     sent: Vec<Sent>,
-    /// What settling their answers told, in order.
+    /// The results of settling their answers, in order. They are kept here since only a table can make a `Settled`.
     pub settled: Vec<Option<Settled>>,
     ghost left_room: { 16 ≤ vec_capacity left },
     ghost bytes_room: { 16 ≤ vec_capacity bytes },
@@ -38,7 +39,7 @@ pub struct Batch {
     ghost settled_room: { 16 ≤ vec_capacity settled },
 }
 
-/// Takes out the answer at that place.
+/// Takes out the answer at that index.
 fn take_at(left: &mut Vec<Option<Left>>, at: usize) -> Option<Left>
     requires { at < vec_len left.old }
     ensures taken { result ≡ slice_index_or left.old.items at None }
@@ -49,7 +50,7 @@ fn take_at(left: &mut Vec<Option<Left>>, at: usize) -> Option<Left>
     left[at].take()
 }
 
-/// Whether the reply at that place was taken. One that was not offered was not.
+/// Whether the reply at that index was taken. A reply that was not offered was not.
 fn is_taken_at(sent: &[Sent], at: usize) -> bool
     ensures { result ≡ taken_at sent.now at }
 {
@@ -70,7 +71,7 @@ fn is_last_broken(sent: &[Sent]) -> bool
 }
 
 impl Batch {
-    /// Room for a batch.
+    /// An empty batch, with room for all its replies.
     pub(crate) fn new(alloc: Global) -> Result<Batch, AllocError> {
         Ok(Batch {
             left: Vec::with_capacity(alloc, BATCH)?,
@@ -80,7 +81,7 @@ impl Batch {
         })
     }
 
-    /// It has no reply any more.
+    /// Removes all replies.
     pub(crate) fn clear(&mut self)
         ensures { (self.new.left.items ≡ []) × (self.new.bytes.items ≡ []) }
     {
@@ -88,7 +89,7 @@ impl Batch {
         self.bytes.clear();
     }
 
-    /// One reply more.
+    /// Adds one reply.
     pub(crate) fn put(&mut self, reply: JobReply)
         requires room { vec_len self.old.left < 16 }
         requires same { vec_len self.old.bytes ≡ vec_len self.old.left }
@@ -106,7 +107,8 @@ impl Batch {
         self.bytes.push_reserved(bytes);
     }
 
-    /// Offers its replies, unless the link broke before. Tells whether it is broken then. Their bytes are let go.
+    /// Offers the replies, unless the link is broken already. Returns whether it is broken afterwards. The bytes are
+    /// dropped.
     pub(crate) fn offer<L: LinkOut>(&mut self, link: &mut L, was_broken: bool) -> bool
         requires few { vec_len self.old.bytes ≤ 16 }
         ensures offers { OffersAll L.sends link.old (map bytes_of self.old.bytes.items) was_broken self.new.sent.items link.new result }
@@ -121,7 +123,7 @@ impl Batch {
         is_last_broken(self.sent.as_slice())
     }
 
-    /// Settles each answer by what became of its reply.
+    /// Settles each answer according to what became of its reply.
     pub(crate) fn settle<H: Wait, T: Ledgers, O: Opening, D: Folders>(
         &mut self,
         rt: &H,

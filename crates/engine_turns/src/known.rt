@@ -1,4 +1,4 @@
-//! Turns of a worker whose directory tells its tree.
+//! Turns of a worker whose directory has a known tree.
 
 ghost use Rattle.std.specs.Prelude.{◌≡◌, Option};
 ghost use Rattle.crossbeam_channel.specs.Claims.{view};
@@ -19,7 +19,8 @@ use std::sync::Wait;
 use table_shared::Opening;
 
 impl Worker {
-    /// A turn with a directory that tells its tree: each call of the directory is one of that tree, or of a device that fails, which is counted.
+    /// A turn with a directory whose tree is known: each call of the directory is one on that tree, or on a device that
+    /// fails, which is counted.
     pub fn turn_known<'a, H: Wait, T: Ledgers, O: Opening, C: KnownTree, D: Folders>(
         &mut self,
         table_handle: &mut TableHandle<'a, H, T, O>,

@@ -1,6 +1,7 @@
-//! The turns of a session on threads: the reader makes one receive, and a job for each whole frame that stands then; a worker answers a job
-//! by a table that it shares; the writer offers the replies that are queued together. The reader and the writer are roles: each stands under
-//! a lock of its own, and whoever has the lock makes its next turn.
+//! The turns of a session on threads. The reader makes one receive, and a job for each frame that is then whole; a
+//! worker answers a job, with a table that all threads share; the writer offers the queued replies together. The reader
+//! and the writer are roles: each is kept under a lock of its own, and the thread that holds the lock takes its next
+//! turn.
 #![tactic(auto)]
 
 mod batches;

@@ -1,11 +1,12 @@
-//! Where the roles of a session began.
+//! The beginnings of a session's roles.
 
 ghost use Rattle.std.specs.Prelude.{ℕ, Option, None};
 ghost use Rattle.engine_turns.specs.Queues.{JobQueue, ReplyQueue};
 
 use std::marker::Brand;
 
-/// Stands for the beginning of one session's reader, and so tells what that reader has read from what any other has.
+/// Stands for the beginning of one session's reader, and so keeps what that reader has read apart from what any other
+/// has.
 pub trait Source<I> {
     /// The queue that gets the jobs.
     ghost jobs: { Option JobQueue };

@@ -1,4 +1,4 @@
-//! Who cuts frames and queues a job for each.
+//! Cutting frames from a link and queueing a job for each.
 
 ghost use Rattle.std.specs.Prelude.{◌≡◌, ◌<◌, ◌≤◌, ◌-◌, ◌++◌, ◌∷◌, [], false, drop, length, map, take, vec_len, IfOk, IsTrue, IsFalse, None, Some};
 ghost use Rattle.crossbeam_channel.specs.Claims.{view, IsSeatAt};
@@ -16,7 +16,7 @@ use std::alloc::{AllocError, Global};
 use std::sync::Wait;
 use wire::{CutFault, Cutter, Frame};
 
-/// How many bytes are asked of a link at a time: more than the longest frame has.
+/// How many bytes a receive may bring: more than the longest frame has.
 pub const READ_AT_ONCE: usize = 131_072;
 
 #[derive(Drop)]
@@ -26,13 +26,13 @@ pub struct Reader {
     pub next: u64,
     pub agreed: bool,
     pub cutter: Cutter,
-    /// Where a receive puts what it brings.
+    /// The buffer for what a receive brings.
     pub room: Vec<u8>,
-    /// How many bytes at the front of the room were received and could not be kept by the cutter.
+    /// How many bytes at the front of the buffer were received but could not be kept by the cutter.
     pub unkept: usize,
     /// The job of the frame that ended the session, if one did. It is not queued.
     pub last_job: Option<Job>,
-    /// The job that the queue handed back, if it did that, or for which no number was left. It is not queued.
+    /// The job that the queue returned, if it did, or for which no number was left. It is not queued.
     pub handed_back: Option<Job>,
     ghost within: { unkept ≤ vec_len room },
     ghost stopped_by: { ∥ StoppedBy cutter.kept cutter.stopped ∥₁ },
@@ -43,7 +43,7 @@ pub struct Reader {
     ghost numbered: { map (λ j. j.ordinal) (view pass).put ≡ numbers 0 (length (view pass).put) },
 }
 
-/// Makes one receive, which leaves the bytes before `from` as they are.
+/// Makes one receive, which does not change the bytes before `from`.
 fn receive_behind<L: LinkIn>(link: &mut L, room: &mut [u8], from: usize) -> Received
     requires { from ≤ length room.old }
     ensures within { IsWithin result (length room.new - from) }
@@ -70,7 +70,7 @@ impl Reader {
     ghost use Rattle.engine_turns.specs.Shown.{progress, queued_of, reading, shown};
     ghost use Rattle.engine_turns.specs.Verdicts.{IsVerdict, QueuesAll, Reads};
 
-    /// A reader that has heard nothing, with the pass of one that has put nothing.
+    /// A reader that has received nothing, with the pass of one that has put nothing.
     pub fn new(alloc: Global, to: JobSender<Job>, pass: JobPass<Job>) -> Result<Reader, AllocError>
         requires seat { IsSeatAt (sends_on to) pass }
         requires parts { 0 < (view pass).parts }
@@ -96,7 +96,7 @@ impl Reader {
         })
     }
 
-    /// Queues a job for a frame. False where the queue hands it back, which is told then.
+    /// Queues a job for a frame. False means that the queue returned the job, which is then kept in `handed_back`.
     fn queue<H: Wait>(&mut self, rt: &H, frame: Frame) -> bool
         requires { IsFramed frame.items }
         ensures yes { IsTrue result → (queued_of (view self.new.pass).put ≡ queued_of (view self.old.pass).put ++ record { agreed = self.old.agreed; frame = frame.items } ∷ []) × IsVerdict self.old.agreed frame.items self.new.agreed × (self.new.handed_back ≡ self.old.handed_back) }
@@ -130,7 +130,8 @@ impl Reader {
         }
     }
 
-    /// Queues a job for each frame that stands whole, before the one that ends the session. Where the queue hands one back the session cannot go on.
+    /// Queues a job for each whole frame before the one that ends the session. If the queue returns one, the session
+    /// cannot go on.
     fn queue_all<H: Wait>(&mut self, rt: &H) -> Option<SessionEnd>
         ensures all { QueuesAll (progress self.old) result (progress self.new) }
         ensures queue { sends_on self.new.to ≡ sends_on self.old.to }
@@ -144,6 +145,8 @@ impl Reader {
                         self.last_job = Some(job_of(self.next, self.agreed, frame));
                         return Some(SessionEnd::Destroyed);
                     }
+                    // This ends the session as lack of memory does, and not as a broken link: a link breaks only at a
+                    // receive or a send. It does not happen, since the coordinator holds a receiver of the queue.
                     if !self.queue(rt, frame) {
                         return Some(SessionEnd::Memory);
                     }
@@ -154,8 +157,8 @@ impl Reader {
         }
     }
 
-    /// Makes one receive, and queues a job for each frame that then stands whole. What is received and cannot be kept stays in the room, and is
-    /// kept by the next turn that can, if one is made.
+    /// Makes one receive, and queues a job for each frame that is then whole. What is received and cannot be kept stays
+    /// in the buffer, and the next turn that can keep it does so, if there is one.
     pub fn turn<H: Wait, L: LinkIn>(&mut self, rt: &H, link: &mut L) -> Option<SessionEnd>
         ensures reads { Reads L.receives (reading link.old self.old) result (reading link.new self.new) }
         ensures queue { sends_on self.new.to ≡ sends_on self.old.to }

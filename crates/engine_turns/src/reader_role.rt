@@ -16,12 +16,12 @@ use engine::{LinkIn, SessionEnd};
 use std::marker::PhantomData;
 use std::sync::Wait;
 
-/// A reader with its link. It has read all that it queued since it began with the link of `S`.
+/// A reader with its link. It has read everything that it queued since it began with the link of `S`.
 #[derive(Drop)]
 pub struct ReaderRole<I: LinkIn + Drop, S: Source<I>> {
     pub reader: Reader,
     pub link: I,
-    /// How a receive ended the session, once one has.
+    /// How a receive ended the session, after one has.
     pub end: Option<SessionEnd>,
     pub source: PhantomData<S>,
     ghost queue: { S.jobs ≡ Some (sends_on reader.to) },
@@ -30,7 +30,7 @@ pub struct ReaderRole<I: LinkIn + Drop, S: Source<I>> {
 }
 
 impl<I: LinkIn + Drop, S: Source<I>> ReaderRole<I, S> {
-    /// A reader that has heard nothing.
+    /// A reader that has received nothing.
     pub fn new(reader: Reader, link: I) -> ReaderRole<I, S>
         requires queue { S.jobs ≡ Some (sends_on reader.to) }
         requires parts { (view reader.pass).parts + S.parted ≡ 8 }
@@ -46,7 +46,8 @@ impl<I: LinkIn + Drop, S: Source<I>> ReaderRole<I, S> {
         }
     }
 
-    /// Makes one receive, and queues a job for each frame that then stands whole. Nothing is done once the session has ended.
+    /// Makes one receive, and queues a job for each frame that is then whole. After the session has ended it does
+    /// nothing.
     pub fn turn<H: Wait>(&mut self, rt: &H)
         ensures over { IfSome self.old.end (λ _. self.new ≡ self.old) }
         ensures reads { IfNone self.old.end (Reads I.receives (reading self.old.link self.old.reader) self.new.end (reading self.new.link self.new.reader)) }
@@ -57,7 +58,7 @@ impl<I: LinkIn + Drop, S: Source<I>> ReaderRole<I, S> {
         }
     }
 
-    /// What it leaves.
+    /// What is left of the reader after its end.
     pub fn into_end(self) -> ReaderEnd
         ensures seat { IfSome S.jobs (λ jobs. IsSeatAt jobs result.pass) }
         ensures parts { (view result.pass).parts + S.parted ≡ 8 }

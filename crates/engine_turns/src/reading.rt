@@ -1,4 +1,4 @@
-//! What a reader leaves.
+//! The end of a reader.
 
 ghost use Rattle.std.specs.Prelude.{◌≡◌, is_some, length, map};
 ghost use Rattle.crossbeam_channel.specs.Claims.{view, IsSeatAt};
@@ -10,20 +10,20 @@ use engine::SessionEnd;
 use engine_queues::Job;
 use engine_queues::jobs::JobPass;
 
-/// What a reader that has ended leaves.
+/// What is left of a reader that has ended.
 #[derive(Drop)]
 pub struct ReaderEnd {
     pub pass: JobPass<Job>,
-    /// How a receive ended the session. None where reading was stopped before.
+    /// How a receive ended the session, or None if reading was stopped before.
     pub end: Option<SessionEnd>,
     /// The job of the frame that ended the session, if one did.
     pub last_job: Option<Job>,
-    /// Whether a job was handed back.
+    /// Whether the queue returned a job.
     pub is_handed_back: bool,
 }
 
 impl ReaderEnd {
-    /// What a reader leaves that has ended so.
+    /// What is left of a reader that ended like this.
     pub fn new(reader: Reader, end: Option<SessionEnd>) -> ReaderEnd
         ensures seat { IsSeatAt (sends_on reader.to) result.pass }
         ensures same { (view result.pass ≡ view reader.pass) × (result.end ≡ end) × (result.last_job ≡ reader.last_job) × (result.is_handed_back ≡ is_some reader.handed_back) }

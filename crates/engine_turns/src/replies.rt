@@ -1,4 +1,4 @@
-//! What a worker puts into the reply queue.
+//! The replies that a worker puts into the reply queue.
 
 ghost use Rattle.std.specs.Prelude.{◌≡◌};
 ghost use Rattle.engine.specs.Batches.{bytes_of};
@@ -8,7 +8,8 @@ use engine::{ReplyBytes, Settings};
 use engine_queues::{Job, Left};
 use std::snapshot::Snapshot;
 
-/// The reply to a job: its bytes, and the answer that is settled once they are offered. By its type it is the right one.
+/// The reply to a job: its bytes, and the answer to be settled after they were offered. Its type guarantees that it is
+/// the right reply.
 #[derive(Drop)]
 pub struct JobReply {
     pub settings: Settings,
@@ -19,7 +20,7 @@ pub struct JobReply {
 }
 
 impl JobReply {
-    /// The answer that is left, of a reply that is not offered.
+    /// The answer to be settled, if the reply is not offered.
     pub(crate) fn into_left(self) -> Option<Left>
         ensures { result ≡ self.left }
     {

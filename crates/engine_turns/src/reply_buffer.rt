@@ -1,4 +1,4 @@
-//! Where the reply to a job is written: into a buffer, from which the worker puts it into its queue.
+//! The buffer in which the reply to a job is written, and from which the worker puts it into the queue.
 
 ghost use Rattle.std.specs.Prelude.{◌≡◌, None, Some};
 ghost use Rattle.engine.specs.declared.links.Sent.TheVariants.{Taken};
@@ -8,7 +8,8 @@ use smallvec::SmallVec;
 use std::alloc::Global;
 use std::mem;
 
-/// The bytes of the buffer. It keeps its memory for the next reply where they are short, and hands it over where they are not.
+/// The bytes in the buffer. If they are short, they are copied and the buffer keeps its memory for the next reply;
+/// otherwise its memory is taken over.
 fn taken(alloc: Global, frame: &mut Vec<u8>) -> SmallVec<u8, SHORT_REPLY>
     ensures { result.items ≡ frame.old.items }
 {
@@ -21,7 +22,7 @@ fn taken(alloc: Global, frame: &mut Vec<u8>) -> SmallVec<u8, SHORT_REPLY>
     }
 }
 
-/// Room for the reply to one job.
+/// A buffer for the reply to one job.
 #[derive(Drop)]
 pub struct ReplyBuffer {
     alloc: Global,
@@ -35,7 +36,7 @@ impl ReplyBuffer {
         ReplyBuffer { alloc, said: None }
     }
 
-    /// What was written into it.
+    /// What was written into it, if anything.
     pub fn into_said(self) -> Option<ReplyBytes>
         ensures { result ≡ self.said }
     {

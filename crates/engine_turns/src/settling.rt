@@ -1,4 +1,4 @@
-//! The settle of an answer that is left.
+//! Settling an answer that was left to the writer.
 
 ghost use Rattle.std.specs.Prelude.{◌≡◌};
 ghost use Rattle.engine_turns.specs.TableCalls.{on_table_of};
@@ -13,7 +13,7 @@ use std::sync::Wait;
 use table::Settled;
 use table_shared::{LogEntry, Opening, Runs, SharedTable};
 
-/// Settles what is left. A listing that was put for it is given up where its reply was not taken.
+/// Settles the answer. If a listing was stored for it and its reply was not taken, the listing's handle is closed.
 pub(crate) fn settle_left<H: Wait, T: Ledgers, O: Opening, D: Folders>(
     rt: &H,
     shared_table: &SharedTable<T, O>,

@@ -4,7 +4,7 @@ ghost use Rattle.std.specs.Prelude.{◌≡◌, ◌++◌, ◌∷◌, [], IfSome};
 
 use ledger::{Ledgers, Share};
 
-/// A thread's share of the table's book. Where it is dropped it is left, and the book is not gathered.
+/// A thread's share of the table's book. If it is dropped, the share is given up, and the book cannot be gathered.
 pub struct ThreadShare<T: Ledgers> {
     pub share: Share<T>,
 }
@@ -25,7 +25,7 @@ impl<T: Ledgers> ThreadShare<T> {
     }
 }
 
-/// The shares that no thread has. Where they are dropped they are left.
+/// The shares that no thread has. If they are dropped, they are given up.
 pub struct Shares<T: Ledgers> {
     pub shares: Vec<Share<T>>,
 }
@@ -51,7 +51,7 @@ impl<T: Ledgers> Shares<T> {
         Shares { shares }
     }
 
-    /// The last of them for a thread, if one is there.
+    /// The last one of them, for a thread, if there is one.
     pub fn take(&mut self) -> Option<ThreadShare<T>>
         ensures { IfSome result (λ kept. self.old.shares.items ≡ self.new.shares.items ++ kept.share ∷ []) }
     {
@@ -59,7 +59,7 @@ impl<T: Ledgers> Shares<T> {
         Some(ThreadShare { share })
     }
 
-    /// One comes back. There is room for all that were taken.
+    /// Takes one back. There is room for all that were taken.
     pub fn put(&mut self, kept: ThreadShare<T>) {
         let share = kept.into_share();
         if self.shares.len() < self.shares.capacity() {

@@ -1,14 +1,14 @@
-//! Threads that have nothing to do.
+//! Threads that sleep while there is nothing to do.
 
 use std::sync::Wait;
 use std::sync::atomic::{AtomicBool, Ordering};
 use std::thread::Parker;
 use std::time::Duration;
 
-/// How long a thread sleeps that is to look again by itself whether there is something to do.
+/// How long the thread sleeps that looks by itself whether there is something to do.
 const NAP_MILLIS: u64 = 1;
 
-/// Where one thread sleeps.
+/// The state of one thread.
 #[derive(Drop)]
 struct Sleeper {
     is_asleep: AtomicBool,
@@ -24,17 +24,19 @@ impl Sleeper {
     }
 }
 
-/// Up to four threads that sleep while there is nothing to do. A thread first tells that it is about to sleep, then looks once more whether
-/// there is something to do, and only then sleeps: so who makes work for others either is seen by that look, or sees the thread and wakes it.
+/// Up to four threads that sleep while there is nothing to do. A thread first announces that it will sleep, then looks
+/// once more whether there is something to do, and only then sleeps. So a thread that makes work for others either is
+/// noticed by that look, or sees the announcement and wakes the sleeper: no wake-up is lost. No contract says this;
+/// tests do.
 #[derive(Drop)]
 pub struct Sleepers {
     places: [Sleeper; 4],
-    /// Whether a thread sleeps that looks again by itself.
+    /// Whether one of the sleeping threads will look by itself.
     is_watched: AtomicBool,
 }
 
 impl Sleepers {
-    /// All are awake.
+    /// All threads are awake.
     pub fn new() -> Sleepers {
         Sleepers {
             places: [
@@ -47,22 +49,22 @@ impl Sleepers {
         }
     }
 
-    /// Tells that the thread of this number is about to sleep.
+    /// Announces that the thread with this number will sleep.
     pub fn lie_down(&self, number: usize) {
         if let Some(place) = self.places.get(number) {
             place.is_asleep.store(true, Ordering::SeqCst);
         }
     }
 
-    /// Tells that the thread of this number does not sleep.
+    /// Announces that the thread with this number will not sleep.
     pub fn get_up(&self, number: usize) {
         if let Some(place) = self.places.get(number) {
             place.is_asleep.store(false, Ordering::SeqCst);
         }
     }
 
-    /// Sleeps until another thread wakes this one. One thread at a time sleeps for at most a millisecond where that is asked for: whether
-    /// this was the one is the result.
+    /// Sleeps until another thread wakes this one. If the caller wants that, one thread at a time sleeps for at most a
+    /// millisecond; the result says whether this was the one.
     pub fn sleep<H: Wait>(&self, rt: &H, number: usize, is_watch_wanted: bool) -> bool {
         let Some(place) = self.places.get(number) else {
             return false;
@@ -80,19 +82,19 @@ impl Sleepers {
         watches
     }
 
-    /// Whether a thread sleeps that looks again by itself.
+    /// Whether one of the sleeping threads will look by itself.
     pub fn is_watched(&self) -> bool {
         self.is_watched.load(Ordering::SeqCst)
     }
 
-    /// Wakes one that sleeps, if any does and none looks again by itself.
+    /// Wakes one sleeping thread, if there is one and none will look by itself.
     pub fn call_watch(&self) {
         if !self.is_watched() {
             self.wake(1);
         }
     }
 
-    /// Wakes so many of those that sleep, or all where there are fewer.
+    /// Wakes that many of the sleeping threads, or all if there are fewer.
     pub fn wake(&self, count: u64) {
         let mut left = count;
         for place in &self.places {

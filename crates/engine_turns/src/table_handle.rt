@@ -1,4 +1,4 @@
-//! A thread's handle of the shared table: the calls that it makes on it, and what they came to in one turn.
+//! A thread's handle to the shared table: the calls that it makes on the table, and their results in one turn.
 
 ghost use Rattle.std.specs.Prelude.{◌≡◌};
 ghost use Rattle.engine_turns.specs.TableCalls.{Fresh, HasBits, turn_end_of};
@@ -15,7 +15,7 @@ use table_files::OpenFile;
 use table_requests::Want;
 use table_shared::{LogEntry, Opening, Runs, SharedTable};
 
-/// What a turn has come to.
+/// The result of a turn.
 #[derive(Drop)]
 pub enum TurnResult {
     Nothing,
@@ -24,7 +24,7 @@ pub enum TurnResult {
     Settled(Settled),
 }
 
-/// A thread's way to reach the table, with its log, and what its turn has come to.
+/// A thread's access to the table, with its log, and the result of its turn.
 #[derive(Drop)]
 pub struct TableHandle<'a, H: Wait, T: Ledgers, O: Opening> {
     pub rt: &'a H,
@@ -50,7 +50,7 @@ impl<'a, H: Wait, T: Ledgers, O: Opening> TableHandle<'a, H, T, O> {
         }
     }
 
-    /// Its log, once it has ended.
+    /// The log, after the thread has ended.
     pub fn into_log(self) -> ThreadLog<LogEntry<T>, Runs<O>>
         ensures { result ≡ self.entry.thread_log }
     {
@@ -63,7 +63,7 @@ impl<'a, H: Wait, T: Ledgers, O: Opening> TableHandle<'a, H, T, O> {
         thread_log
     }
 
-    /// What its turn has come to. Another one may begin.
+    /// The result of the turn. Another one may begin.
     pub fn take_end(&mut self) -> TurnResult
         ensures end { result ≡ self.old.turn_result }
         ensures fresh { turn_end_of self.new.turn_result ≡ Fresh }

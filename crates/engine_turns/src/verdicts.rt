@@ -1,4 +1,4 @@
-//! What frames say of the session, before they are worked off.
+//! What frames mean for the session, found out before they are handled.
 
 ghost use Rattle.std.specs.Prelude.{◌≡◌, IsTrue, IsFalse};
 ghost use Rattle.wire.specs.Requests.{IsFramed, opcode_in};

@@ -1,4 +1,4 @@
-//! One job of a worker.
+//! A worker's turns.
 
 ghost use Rattle.std.specs.Prelude.{◌≡◌, ◌<◌, ◌+◌, ◌^◌, length, true, Some, Option, List, ℕ};
 ghost use Rattle.crossbeam_channel.specs.Claims.{view, IsSeatAt};
@@ -33,13 +33,13 @@ use table_shared::Opening;
 /// What a turn did.
 #[derive(Drop)]
 pub enum Turn {
-    /// It met a job, and made this settle, if any.
+    /// It handled a job, and made this settle, if any.
     Worked(Option<Settled>),
-    /// It met none: there was none, or a count of the worker is full.
+    /// It handled none: there was none, or a count of the worker is at its maximum.
     Nothing,
 }
 
-/// Meets a job by the rules of a session: what is replied, and what has come of it in the table.
+/// Handles a job by the rules of a session. Returns the reply, and what happened in the table.
 fn meet_job<'a, H: Wait, T: Ledgers, O: Opening, C: Calls, D: Folders>(
     session: &mut Session,
     table_handle: &mut TableHandle<'a, H, T, O>,
@@ -64,7 +64,7 @@ fn meet_job<'a, H: Wait, T: Ledgers, O: Opening, C: Calls, D: Folders>(
     (reply_buffer.into_said(), table_handle.take_end())
 }
 
-/// The answer that is left, and the settle that was made.
+/// The answer to be settled, and the settle that was made.
 fn parted(turn_result: TurnResult) -> (Option<Left>, Option<Settled>)
     ensures left { result.0 ≡ left_in (turn_end_of turn_result) }
     ensures settled { result.1 ≡ settled_in (turn_end_of turn_result) }
@@ -76,7 +76,7 @@ fn parted(turn_result: TurnResult) -> (Option<Left>, Option<Settled>)
     }
 }
 
-/// The reply to a job, which is right.
+/// The reply to a job, which is the right one.
 fn reply_to(settings: Settings, job: &Job, bytes: ReplyBytes, left: Option<Left>) -> JobReply
     requires { IsRight settings job.now (bytes_of bytes) left }
     ensures { (result.settings ≡ settings) × (result.job.value ≡ job.now) × (result.bytes ≡ bytes) × (result.left ≡ left) }
@@ -89,7 +89,7 @@ fn reply_to(settings: Settings, job: &Job, bytes: ReplyBytes, left: Option<Left>
     }
 }
 
-/// Who takes jobs, and puts a reply to each that gets one.
+/// A worker: it takes jobs, and puts a reply for each that gets one into the queue.
 #[derive(Drop)]
 pub struct Worker {
     pub number: u64,
@@ -99,7 +99,7 @@ pub struct Worker {
     pub replies: ReplySender<JobReply>,
     pub reply_pass: ReplyPass<JobReply>,
     pub count: u64,
-    /// How many of its replies the queue handed back.
+    /// How many of its replies the queue returned.
     pub handed_back: u64,
     ghost seated: { IsSeatAt (receives_on jobs) job_pass },
     ghost reply_seated: { IsSeatAt (sends_on replies) reply_pass },
@@ -111,7 +111,7 @@ pub struct Worker {
 }
 
 impl Worker {
-    /// A worker that goes on from these passes. None of its replies was handed back.
+    /// A worker that continues with these passes. So far the queue has returned none of its replies.
     pub fn new(
         alloc: Global,
         settings: Settings,
@@ -150,7 +150,7 @@ impl Worker {
         }
     }
 
-    /// Its passes, once it has ended.
+    /// Its passes, after it has ended.
     pub fn into_passes(self) -> Passes<Job, JobReply>
         ensures number { result.number ≡ self.number }
         ensures seats { IsSeatAt (receives_on self.jobs) result.job_pass × IsSeatAt (sends_on self.replies) result.reply_pass }
@@ -176,7 +176,8 @@ impl Worker {
         }
     }
 
-    /// Puts the reply to a job, if there is one. One that is handed back is counted, and settled as untaken.
+    /// Puts the reply to a job into the queue, if there is one. If the queue returns it, that is counted, and the
+    /// answer is settled as untaken.
     fn put<'a, H: Wait, T: Ledgers, O: Opening, D: Folders>(
         &mut self,
         table_handle: &mut TableHandle<'a, H, T, O>,
@@ -229,7 +230,7 @@ impl Worker {
         }
     }
 
-    /// Meets a job, and puts its reply.
+    /// Handles a job, and queues its reply.
     fn meet<'a, H: Wait, T: Ledgers, O: Opening, C: Calls, D: Folders>(
         &mut self,
         table_handle: &mut TableHandle<'a, H, T, O>,
@@ -254,7 +255,8 @@ impl Worker {
         )
     }
 
-    /// Meets a job that was not queued, and puts its reply. It does nothing where the count of replies that were handed back is full.
+    /// Handles a job that was not in the queue, and queues its reply. It does nothing if the count of replies that were
+    /// returned is at its maximum.
     pub fn answer<'a, H: Wait, T: Ledgers, O: Opening, C: Calls, D: Folders>(
         &mut self,
         table_handle: &mut TableHandle<'a, H, T, O>,
@@ -274,7 +276,7 @@ impl Worker {
         Turn::Worked(self.meet(table_handle, share, served, job))
     }
 
-    /// Takes one job, meets it, and puts its reply. It takes none where a count of its own is full.
+    /// Takes one job, handles it, and queues its reply. It takes none if a count of its own is at its maximum.
     pub fn turn<'a, H: Wait, T: Ledgers, O: Opening, C: Calls, D: Folders>(
         &mut self,
         table_handle: &mut TableHandle<'a, H, T, O>,

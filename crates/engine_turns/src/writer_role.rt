@@ -21,8 +21,9 @@ use std::marker::PhantomData;
 use std::sync::Wait;
 use table_shared::{LogEntry, Opening, Runs, SharedTable};
 
-/// A writer with its link, its share of the table's book, and its log of the table's history. It has offered all that it took since it
-/// began with the link of `S`, and did nothing on the table but settle the answers of what it offered.
+/// A writer with its link, its share of the table's book, and its log of the table's history. It has offered everything
+/// that it took since it began with the link of `S`, and did nothing on the table except settling the answers of what
+/// it offered.
 #[derive(Drop)]
 pub struct WriterRole<T: Ledgers, N: Opening, O: LinkOut + Drop, S: Sink<O>> {
     pub writer: Writer,
@@ -36,7 +37,7 @@ pub struct WriterRole<T: Ledgers, N: Opening, O: LinkOut + Drop, S: Sink<O>> {
     ghost wrote: { ∥ HasWritten O.sends S.sent_to S.senders (on_table_of thread_log) (writing (view writer.pass) link writer.is_broken) ∥₁ },
 }
 
-/// What a writer that has ended leaves.
+/// What is left of a writer that has ended.
 #[derive(Drop)]
 pub struct WriterEnd<T: Ledgers, N: Opening> {
     pub pass: ReplyPass<JobReply>,
@@ -46,7 +47,7 @@ pub struct WriterEnd<T: Ledgers, N: Opening> {
 }
 
 impl<T: Ledgers, N: Opening, O: LinkOut + Drop, S: Sink<O>> WriterRole<T, N, O, S> {
-    /// A writer that has offered nothing. Its index is behind those of the senders.
+    /// A writer that has offered nothing. Its index comes after those of the senders.
     pub fn new(
         writer: Writer,
         link: O,
@@ -69,8 +70,8 @@ impl<T: Ledgers, N: Opening, O: LinkOut + Drop, S: Sink<O>> WriterRole<T, N, O, 
         }
     }
 
-    /// Takes what is queued, at most 16 replies, offers them together, and settles the answer of each by its own verdict. It waits for none, and
-    /// says how many they were.
+    /// Takes what is queued, at most 16 replies, offers them together, and settles the answer of each according to what
+    /// became of it. It does not wait for replies, and returns how many there were.
     pub fn turn<H: Wait, D: Folders>(
         &mut self,
         rt: &H,
@@ -93,7 +94,7 @@ impl<T: Ledgers, N: Opening, O: LinkOut + Drop, S: Sink<O>> WriterRole<T, N, O, 
         )
     }
 
-    /// What it leaves.
+    /// What is left of the writer after its end.
     pub fn into_end(self) -> WriterEnd<T, N>
         ensures seat { IfSome S.replies (λ replies. IsSeatAt replies result.pass) }
         ensures gets { (view result.pass).gets ≡ true }

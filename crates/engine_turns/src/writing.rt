@@ -1,4 +1,4 @@
-//! What the writer does with the replies in its queue.
+//! Offering the replies in the queue.
 
 ghost use Rattle.std.specs.Prelude.{◌≡◌, ◌≤◌, false, length, true, IfOk, vec_len};
 ghost use Rattle.crossbeam_channel.specs.Claims.{view, IsSeatAt};
@@ -18,14 +18,14 @@ use std::alloc::{AllocError, Global};
 use std::sync::Wait;
 use table_shared::{LogEntry, Opening, Runs, SharedTable};
 
-/// Who offers replies, in the order of their queue.
+/// A writer: it offers replies, in the order of their queue.
 #[derive(Drop)]
 pub struct Writer {
     pub replies: ReplyReceiver<JobReply>,
     pub pass: ReplyPass<JobReply>,
-    /// Whether the link broke: then nothing more is offered.
+    /// Whether the link is broken: then nothing more is offered.
     pub is_broken: bool,
-    /// What was taken from the queue together last.
+    /// What was last taken from the queue together.
     pub batch: Batch,
     ghost seated: { IsSeatAt (receives_on replies) pass },
     ghost gets: { (view pass).gets ≡ true },
@@ -33,7 +33,8 @@ pub struct Writer {
 }
 
 impl Writer {
-    /// A writer that has offered nothing, with the pass that gets the replies. It takes all the memory that it will need.
+    /// A writer that has offered nothing, with the pass that gets the replies. It allocates all the memory that it will
+    /// need.
     pub fn new(
         alloc: Global,
         replies: ReplyReceiver<JobReply>,
@@ -55,7 +56,7 @@ impl Writer {
         })
     }
 
-    /// Its pass, once it has ended.
+    /// Its pass, after it has ended.
     pub fn into_pass(self) -> ReplyPass<JobReply>
         ensures seat { IsSeatAt (receives_on self.replies) result }
         ensures pass { view result ≡ view self.pass }
@@ -71,7 +72,7 @@ impl Writer {
         pass
     }
 
-    /// Takes what is queued, at most a batch of it. It waits for nothing.
+    /// Takes what is queued, at most one batch. It does not wait.
     fn take_queued<H: Wait>(&mut self, rt: &H)
         ensures queue { receives_on self.new.replies ≡ receives_on self.old.replies }
         ensures made { (view self.new.pass).made ≡ (view self.old.pass).made }
@@ -91,8 +92,8 @@ impl Writer {
         }
     }
 
-    /// Takes what is queued, at most 16 replies, offers them together, and settles the answer of each: as taken only where the link took its reply.
-    /// It waits for none, and says how many they were.
+    /// Takes what is queued, at most 16 replies, offers them together, and settles the answer of each: as taken only if
+    /// the link took its reply. It does not wait for replies, and returns how many there were.
     pub fn turns<H: Wait, T: Ledgers, O: Opening, L: LinkOut, D: Folders>(
         &mut self,
         rt: &H,

@@ -1,4 +1,4 @@
--- What is too small for a page.
+-- When a page is too small.
 use Rattle.std.proofs.Common.{◌≡◌, ℕ, ◌<◌, ◌≤◌, Bool, List, [], ◌∷◌, refl, length, take, ap, ◌∙◌, arith, inl, inr, zero-add}
 use Rattle.std.proofs.lemmas.Bool.{cases_lt}
 use Rattle.std.proofs.lemmas.List.{take-take}
@@ -9,7 +9,7 @@ use Rattle.handles.specs.Pages.{padded, bytes_of, IsLongestRun, IsSmall}
 first_bytes : (plus : Bool) (child : Child) (entries : List Child) → bytes_of plus (take 1 (child ∷ entries)) ≡ padded plus child
 first_bytes plus child entries = zero-add (padded plus child)
 
--- Where the longest run is empty, but not all that it is of, the first entry is too long.
+-- If no entry fits, but there are entries, the first one is too long.
 pub small_first : (plus : Bool) (size : ℕ) (entries : List Child) → IsLongestRun plus size entries (take 0 entries) → 0 < length entries → IsSmall plus size entries
 small_first plus size [] run some = absurd (omega arith)
 small_first plus size (child ∷ entries) run some = record {
@@ -25,7 +25,7 @@ small_first plus size (child ∷ entries) run some = record {
   ];
 }
 
--- What has room for one entry, or has none to show, is not too small.
+-- If one entry fits, or there are none, the size is not too small.
 pub not_small : (plus : Bool) (size n : ℕ) (entries : List Child) → IsLongestRun plus size entries (take n entries) → (n ≡ 0 → length entries ≡ 0) → IsSmall plus size entries → ⊥
 not_small plus size n entries run some s =
     let long : length entries ≡ length (s.first ∷ s.more) = ap (λ (es : List Child). length es) s.there in

@@ -1,4 +1,4 @@
--- Children by the bytes of their names.
+-- Children ordered by the bytes of their names.
 use Rattle.std.proofs.Common.{◌≡◌, ℕ, ◌+◌, ◌<◌, Bool, true, false, IsTrue, List, [], ◌∷◌, length, get_or, refl, sym, ap, ◌∙◌, arith}
 use Rattle.std.proofs.lemmas.Bool.{true≢false, false≢true}
 use Rattle.std.proofs.lemmas.Map.Keys.{Less-from_sorted, sorted_from_all_adjacent}
@@ -20,7 +20,7 @@ less_from Less h = refl
 less_from Equal h = absurd (false≢true h)
 less_from Greater h = absurd (false≢true h)
 
--- two names compare as equal exactly where they are one
+-- two names compare as equal exactly if they are equal
 pub same_from_equal : (a b : Child) → eq_by_cmp by_name a b ≡ true → a.name ≡ b.name
 same_from_equal a b h = (bytes_decides a.name b.name).0 (texts_ties a.name b.name ∙ h)
 
@@ -40,7 +40,7 @@ less_unless Less h d = refl
 less_unless Equal h d = absurd (true≢false d)
 less_unless Greater h d = absurd (true≢false h)
 
--- what is not above, and differs, is below
+-- a name that is not above another, and differs from it, is below it
 pub below_from : (a b : Child) → is_lt (by_name b a) ≡ false → eq_by_cmp by_name a b ≡ false → by_name a b ≡ Less
 below_from a b h d = less_unless (by_name a b) (ap is_lt (sym (by_name_total.antisymm b a)) ∙ h) d
 
@@ -52,7 +52,7 @@ rising_adjacent (x ∷ xs) h = sorted_from_all_adjacent by_name_total (x ∷ xs)
 not_rising : (xs : List Child) (k : ℕ) (d : Child) → k + 1 < length xs → false ≡ is_lt (by_name (get_or xs k d) (get_or xs (k + 1) d)) → IsStrictlySortedBy by_name xs → ⊥
 not_rising xs k d b tells up = false≢true (tells ∙ ap is_lt (Less-from_sorted by_name xs k (k + 1) d up (omega arith) b))
 
--- what `is_sorted_by` says of names that are each to be below the next
+-- what `is_sorted_by` says about names that should each be below the next
 pub rising_decides : (xs : List Child) (d : Child) (b : Bool) → IsAllAdjacentAnswer (λ x y t. t ≡ is_lt (by_name x y)) xs b → (IsTrue b → IsStrictlySortedBy by_name xs) × (IsStrictlySortedBy by_name xs → IsTrue b)
 rising_decides xs d true h = (λ t. rising_adjacent xs h, λ up. refl)
 rising_decides xs d false h = (λ t. absurd (false≢true t), λ up. absurd (not_rising xs h.0 d h.1 (h.2 d) up))

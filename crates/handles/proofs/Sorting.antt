@@ -1,4 +1,4 @@
--- What a listing has in common with the children that it is made of.
+-- What a listing has in common with the children from which it is made.
 use Rattle.std.proofs.Common.{◌≡◌, ℕ, ◌+◌, Bool, true, false, not, ◌&&◌, cond, is_none, if◌then◌else◌, List, [], ◌∷◌, Option, Some, None, get_or, refl, sym, ap, ◌∙◌, subst, arith, ◌↔◌, IsTrue, codes, inl, inr}
 use Rattle.std.proofs.lemmas.Bool.{true≢false, false≢true, and_parts, cases_Bool, cond-true, cond-false}
 use Rattle.std.proofs.lemmas.List.Sums.{sum_by-cons, AllPass-from_list_all, list_all-from_AllPass}
@@ -32,7 +32,7 @@ kind_some c cs name e = cond-true (is_name c.name name) (Some c.kind) (kind_in c
 some_none : (k : Kind) (o : Option Kind) → o ≡ Some k → o ≡ None → ⊥
 some_none k o s n = cc
 
--- no child bears x's name, said by look-ups and by comparing
+-- no child has x's name, by look-ups and by comparison
 absent_from_apart : (x : Child) (cs : List Child) → AllByRecursion (λ (y : Child). same x y ≡ false) cs → kind_in cs x.name ≡ None
 absent_from_apart x [] h = refl
 absent_from_apart x (c ∷ cs) h =
@@ -66,7 +66,7 @@ rises [] up apart = tt
 rises (y ∷ ys) up apart =
     sorted_from_all_adjacent by_name_total (y ∷ ys) y (λ k b. below_from (get_or (y ∷ ys) k y) (get_or (y ∷ ys) (k + 1) y) (up k y (omega arith) b) (apart_from_distinct same (y ∷ ys) k (k + 1) y apart (omega arith) b))
 
--- Children that are sorted rise exactly where each name came once.
+-- Sorted children rise exactly if each name comes once.
 pub rises_from_once : (xs ys : List Child) → IsPermutation xs ys → IsSorted by_name ys → EachOnce xs → IsStrictlySortedBy by_name ys
 rises_from_once xs ys moved up once = rises ys up (IsDistinct-IsPermutation same equal_flips xs ys moved (distinct_from_once xs once))
 
@@ -76,7 +76,7 @@ once_from_rising ys up = once_from_distinct ys (IsDistinct-from_sorted by_name y
 pub once_from_rises : (xs ys : List Child) → IsPermutation xs ys → IsStrictlySortedBy by_name ys → EachOnce xs
 once_from_rises xs ys moved up = once_from_distinct xs (IsDistinct-IsPermutation same equal_flips ys xs (IsPermutation-sym xs ys moved) (IsDistinct-from_sorted by_name ys up))
 
--- A kind as a number, so that a look-up is a sum, which no change of places changes.
+-- A kind as a number, so that a look-up is a sum, which does not depend on order.
 abbrev number : Kind → ℕ
 number Folder = 1
 number File = 2
@@ -114,7 +114,7 @@ weighs name (c ∷ cs) once = elim (cases_Bool (is_name c.name name)) [
       whole ∙ (weighs name cs once.1 ∙ sym (ap number_in (kind_none c cs name e)))
 ]
 
--- Places do not matter to look-ups, where each name comes once.
+-- Order does not matter to look-ups if each name comes once.
 pub same_kinds : (xs ys : List Child) → IsPermutation xs ys → EachOnce xs → EachOnce ys → (name : Name) → kind_in ys name ≡ kind_in xs name
 same_kinds xs ys moved one two name =
     kind_from_number (kind_in ys name) (kind_in xs name) (sym (weighs name ys two) ∙ (sum_by-IsPermutation (weight name) xs ys moved ∙ weighs name xs one))
@@ -134,7 +134,7 @@ kept c cs e = cond-true (shown c) (c ∷ filter shown cs) (filter shown cs) (ap 
 left_out : (c : Child) (cs : List Child) → is_reserved c.name ≡ true → filter shown (c ∷ cs) ≡ filter shown cs
 left_out c cs e = cond-false (shown c) (c ∷ filter shown cs) (filter shown cs) (ap not e)
 
--- what is left without the reserved names
+-- the kinds without the reserved names
 pub kinds_shown : (cs : List Child) (name : Name) → kind_in (filter shown cs) name ≡ (if is_reserved name then None else kind_in cs name)
 kinds_shown [] name = elim (cases_Bool (is_reserved name)) [
   | inl e ↦ sym (hidden (is_reserved name) None e)
@@ -162,7 +162,7 @@ kinds_shown (c ∷ cs) name = elim (cases_Bool (is_reserved c.name)) [
 and_true : (x y : Bool) → x ≡ true → y ≡ true → (x && y) ≡ true
 and_true x y a b = ap (λ (t : Bool). t && y) a ∙ b
 
--- the test whether each name comes once, and the fact
+-- the test whether each name comes once decides it
 once_by_test : (cs : List Child) → is_each_once cs ≡ true → EachOnce cs
 once_by_test [] h = tt
 once_by_test (c ∷ cs) h =
@@ -204,7 +204,7 @@ ordered xs ys zs is names moved up = subst (λ (cs : List Child). IsInOrder cs y
   rising = up;
 })
 
--- the listing of children that are in order
+-- the listing of children that are sorted
 pub listed : (xs ys entries : List Child) → IsInOrder xs ys → entries ≡ folder_at (codes ".") ∷ folder_at (codes "..") ∷ filter shown ys → Shows xs entries
 listed xs ys entries o is = record {
   listing = record {

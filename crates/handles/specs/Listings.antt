@@ -20,7 +20,7 @@ is_each_once (child ∷ children) = is_none (kind_in children child.name) && is_
 abbrev pub are_lawful : List Child → Bool
 are_lawful children = list_all (λ child. is_lawful child.name) children && is_each_once children
 
--- these children, which are lawful, by rising bytes
+-- these children, which are lawful, sorted by bytes
 pub record IsInOrder (children names : List Child) : Type 0 where
   pub lawful : are_lawful children ≡ true
   pub moved : IsPermutation children names
@@ -29,7 +29,7 @@ pub record IsInOrder (children names : List Child) : Type 0 where
 abbrev pub folder_at : Name → Child
 folder_at name = record { name = name; kind = kinds.Folder }
 
--- `.` and `..`, then lawful names by rising bytes, none of them reserved
+-- `.` and `..`, then lawful names sorted by bytes, none of them reserved
 pub record IsListing (entries : List Child) : Type 0 where
   pub names : List Child
   pub dots : entries ≡ folder_at (codes ".") ∷ folder_at (codes "..") ∷ names
@@ -42,19 +42,19 @@ pub record Shows (children entries : List Child) : Type 0 where
   pub listing : IsListing entries
   pub same : (name : Name) → kind_in listing.names name ≡ (if is_reserved name then None else kind_in children name)
 
--- an open folder: its node, its handle and what it shows
+-- an open folder: its node, its handle, and what it shows
 pub record OpenFolder : Type 0 where
   pub number : ℕ
   pub fh : ℕ
   pub entries : List Child
 
--- the listing of a node's children, which has no handle yet; a fault exactly where they are lawless
+-- the listing of a node's children, which has no handle yet; a fault exactly if they are not lawful
 abbrev pub IsMade : ℕ → List Child → Result OpenFolder ListingFault → Type 0
 IsMade number children (Ok folder) = (are_lawful children ≡ true) × (folder.number ≡ number) × (folder.fh ≡ 0) × Shows children folder.entries
 IsMade number children (Err Lawless) = are_lawful children ≡ false
 IsMade number children (Err Memory) = are_lawful children ≡ true
 
--- what is lent bears the handle that was asked for, and is a listing
+-- what is lent has the handle that was asked for, and is a listing
 pub record IsLent (fh : ℕ) (folder : OpenFolder) : Type 0 where
   pub bears : folder.fh ≡ fh
   pub listing : IsListing folder.entries

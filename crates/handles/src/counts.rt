@@ -1,10 +1,10 @@
-//! Counts that threads share, up to a limit.
+//! Counts with a limit that threads share.
 
 ghost use Rattle.std.specs.Prelude.{◌≡◌, ◌+◌, ◌≤◌, IfSome};
 
 use std::sync::atomic::{AtomicU64, Ordering};
 
-/// How much is kept, and the most that may be.
+/// The current count, and its limit.
 #[derive(Drop)]
 pub(crate) struct Count {
     kept: AtomicU64,
@@ -12,7 +12,7 @@ pub(crate) struct Count {
 }
 
 impl Count {
-    /// Nothing is kept.
+    /// A count of 0.
     pub(crate) fn new(most: u64) -> Count
         ensures { result.most ≡ most }
     {
@@ -22,7 +22,7 @@ impl Count {
         }
     }
 
-    /// Counts so many more, and answers how many were kept before. None says that they would pass the limit.
+    /// Increases the count by `more` and returns the count before. None means that it would exceed the limit.
     pub(crate) fn take(&self, more: u64) -> Option<u64>
         ensures { IfSome result (λ before. before + more ≤ self.now.most) }
     {
@@ -36,7 +36,7 @@ impl Count {
         taken.ok()
     }
 
-    /// Gives so many back, which were taken.
+    /// Decreases the count by what was added before.
     pub(crate) fn give_back(&self, count: u64) {
         self.kept.fetch_sub(count, Ordering::SeqCst);
     }

@@ -14,11 +14,12 @@ use sharded_slab::RuledSlab;
 use std::alloc::{AllocError, Global};
 use std::marker::Model;
 
-/// In how many parts the store makes its room: while a thread makes room in one of them, another may do so in the next.
+/// The store has several parts, since one that another thread is just enlarging has no room for a moment, and then the
+/// next one is tried.
 const PARTS: usize = 8;
 
-/// The open folders of a session, which several threads share without a lock. A listing stands under the handle that it bears; handles
-/// rise in no order, and 0 may be one. Contracts see them as their limits.
+/// The open folders of a session, which several threads share without a lock. A listing is stored under its handle,
+/// which it contains. Handles rise in no particular order, and 0 may be one. Contracts see only the limits.
 #[derive(Drop)]
 pub struct Dirs {
     stored: RuledSlab<Stored, OwnHandle>,
@@ -35,14 +36,14 @@ impl Model for Dirs {
 }
 
 impl Dirs {
-    /// No open folders, which may grow as far as `FolderLimits` says by default.
+    /// No open folders, with the default limits of `FolderLimits`.
     pub fn new(alloc: Global) -> Result<Dirs, AllocError>
         ensures { IfOk result (λ dirs. dirs ≡ record { folders = 4096; names = 1048576 }) }
     {
         Dirs::with_limits(alloc, FolderLimits::default())
     }
 
-    /// No open folders, which may grow as far as these limits say.
+    /// No open folders, with these limits.
     pub fn with_limits(alloc: Global, limits: FolderLimits) -> Result<Dirs, AllocError>
         ensures { IfOk result (λ dirs. dirs ≡ limits) }
     {
@@ -53,7 +54,8 @@ impl Dirs {
         })
     }
 
-    /// Counts a folder with so many names. False says that it would pass a limit, and nothing is counted.
+    /// Counts one more folder with that many names. False means that it would exceed a limit, and then nothing is
+    /// counted.
     fn count(&self, names: u64) -> bool
         ensures { result ≡ true → (1 ≤ self.now.folders) × (names ≤ self.now.names) }
     {
@@ -67,26 +69,29 @@ impl Dirs {
         true
     }
 
-    /// Counts a folder with so many names no longer.
+    /// Counts one folder with that many names less.
     fn give_back(&self, names: u64) {
         self.folders.give_back(1);
         self.names.give_back(names);
     }
 
-    /// Stores the listing under a new handle, which it then bears. Without room it comes back as it was.
+    /// Stores the listing under a new handle, which is written into it. If there is no room, the listing is returned
+    /// unchanged.
     fn store(&self, listing: Listing) -> Result<u64, Listing>
         ensures { IfErr result (λ back. back ≡ listing) }
     {
         let Some(vacant) = self.stored.vacant_entry(0) else {
             return Err(listing);
         };
+        // The handle is written before the listing is shared, so that every reader finds the listing's own key in it.
         let fh = vacant.key() as u64;
         vacant.insert(Stored::new(listing.under(fh)));
         Ok(fh)
     }
 
-    /// Stores the listing and answers its handle, which it then bears. Where that would pass a limit, or memory is refused, it comes back
-    /// as it was: ENFILE (own). A call that is about to be refused is counted for a moment, and may so refuse another one at the limit.
+    /// Stores the listing and returns its handle, which is written into it. If that would exceed a limit, or memory is
+    /// refused, the listing is returned unchanged: ENFILE (own). A call that is about to be refused is counted for a
+    /// moment, so at the limit it may make another one be refused too.
     pub fn put(&self, listing: Listing) -> Result<u64, Listing>
         ensures within { IsPutWithin self.now listing (handle_in result) }
         ensures back { IfErr result (λ back. back ≡ listing) }
@@ -102,7 +107,8 @@ impl Dirs {
         put
     }
 
-    /// Lends the listing under the handle. None is EBADF (own).
+    /// Lends the listing under the handle. None means EBADF (own). It is also the answer if the listing is already lent
+    /// too often (2^30 times).
     pub fn lend(&self, fh: u64) -> Option<Lent<'_>>
         ensures { IfSome result (IsLent fh) }
     {
@@ -110,11 +116,13 @@ impl Dirs {
         Some(Lent::new(entry))
     }
 
-    /// Gives the handle up for good. Whether a listing stood under it; false is EBADF (own). Of calls that meet one is answered true.
+    /// Closes the handle. The result says whether there was a listing; false means EBADF (own). If several calls close
+    /// the same handle, exactly one gets true.
     pub fn retire(&self, fh: u64) -> bool {
         let Some(entry) = self.stored.get(fh as usize) else {
             return false;
         };
+        // The slab would confirm every removal while the listing is lent, so a mark in it decides which call closed it.
         if !entry.value().retire() {
             return false;
         }
@@ -126,7 +134,8 @@ impl Dirs {
     }
 }
 
-/// Open folders that others use too.
+/// Open folders that others use too. The trait is implemented for the shared reference, so that each session's calls
+/// are one chain of states.
 impl<'d> Folders for &'d Dirs {
     ghost use Rattle.handles.specs.Calls.{Shares};
 

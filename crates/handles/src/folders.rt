@@ -1,10 +1,10 @@
-//! Open folders, as far as their callers know them.
+//! Open folders, as far as their callers know about them.
 
 ghost use Rattle.std.specs.Prelude.{◌≡◌};
 
 use crate::listing::Listing;
 
-/// A listing that is lent. It stays as it is for as long as this lives.
+/// A listing that is lent. It does not change as long as this value exists.
 pub trait Loan: Drop {
     ghost use Rattle.handles.specs.Listings.{OpenFolder};
 
@@ -22,24 +22,25 @@ pub trait Folders {
     ghost use Rattle.handles.specs.Calls.{FolderCall, Put, Lend, Retire};
     ghost use Rattle.handles.specs.Listings.{IsLent, OpenFolder};
 
-    /// A listing that they lend.
+    /// The type of a listing that they lend.
     type Lent: Loan;
 
-    /// Which answer may follow which call, and what they are then.
+    /// Which answers a call may have, and which state they may be in afterwards.
     ghost keeps: { Self → FolderCall → Self → Type 0 };
 
-    /// Stores the listing and answers its handle, which it then bears. None says that there is no room for it: ENFILE (own).
+    /// Stores the listing and returns its handle, which is written into it. None means that there is no room for it:
+    /// ENFILE (own).
     fn put(&mut self, listing: Listing) -> Option<u64>
         ensures { keeps self.old (Put listing result) self.new };
 
-    /// Lends the listing under the handle. None is EBADF (own).
+    /// Lends the listing under the handle. None means EBADF (own).
     fn lend(&mut self, fh: u64) -> Option<Self::Lent>
         ensures { keeps self.old (Lend fh (option_map Self.Lent.shows result)) self.new };
 
-    /// Gives the handle up for good. Whether a listing stood under it; false is EBADF (own).
+    /// Closes the handle. The result says whether there was a listing; false means EBADF (own).
     fn retire(&mut self, fh: u64) -> bool
         ensures { keeps self.old (Retire fh result) self.new };
 
-    /// What is lent bears the handle that was asked for, and is a listing.
+    /// What is lent has the handle that was asked for, and is a listing.
     ghost lends: { (old new : Self) (fh : ℕ) (folder : OpenFolder) → keeps old (Lend fh (Some folder)) new → IsLent fh folder };
 }

@@ -10,8 +10,8 @@ use sharded_slab::Entry;
 use std::alloc::Global;
 use std::marker::Model;
 
-/// A listing that is lent by the open folders. It stays as it is for as long as this lives, retired or not, and keeps nobody
-/// waiting. Contracts see it as the listing.
+/// A listing lent by the open folders. It does not change as long as this value exists, even if it is retired, and it
+/// keeps no one waiting. Contracts see it as the listing.
 #[derive(Drop)]
 pub struct Lent<'a> {
     entry: Entry<'a, Stored, OwnHandle, Global>,
@@ -27,7 +27,7 @@ impl<'a> Model for Lent<'a> {
 }
 
 impl<'a> Lent<'a> {
-    /// Lends what stands under a key.
+    /// Lends the listing stored under a key.
     pub(crate) fn new(entry: Entry<'a, Stored, OwnHandle, Global>) -> Lent<'a>
         ensures { IsLent entry.entry.spot.key result }
     {

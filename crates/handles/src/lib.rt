@@ -1,4 +1,4 @@
-//! What a client sees of a folder that is open: its listing, and pages of it.
+//! What a client sees of an open folder: its listing, and pages of it.
 #![tactic(auto)]
 
 mod counts;

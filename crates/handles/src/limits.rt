@@ -1,19 +1,19 @@
-//! How much a session's open folders may keep.
+//! Limits of a session's open folders.
 
 ghost use Rattle.std.specs.Prelude.{◌≡◌};
 
-/// The most folders that are open at once.
+/// The maximum number of folders that are open at once.
 pub const MAX_OPEN_FOLDERS: u64 = 4_096;
 
-/// The most names that open folders keep in all, `.` and `..` of each among them.
+/// The maximum number of names in all open folders, including `.` and `..` of each.
 pub const MAX_KEPT_NAMES: u64 = 1_048_576;
 
-/// How far the open folders of a session may grow.
+/// Limits of a session's open folders.
 #[derive(Clone, Copy, Debug, PartialEq, Eq)]
 pub struct FolderLimits {
     /// Folders that are open at once.
     pub folders: u64,
-    /// Names that they keep in all, `.` and `..` of each among them.
+    /// Names in all of them, including `.` and `..` of each.
     pub names: u64,
 }
 

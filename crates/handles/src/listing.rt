@@ -9,17 +9,18 @@ use paths::Name;
 use std::alloc::{AllocError, Global};
 use std::marker::Model;
 
-/// Why no listing was made.
+/// Why a listing could not be made.
 #[derive(Clone, Copy, Debug, PartialEq, Eq)]
 pub enum ListingFault {
-    /// A name is empty, longer than 255 bytes, `.` or `..`, has a slash or a zero byte, or stands twice: EIO (own).
+    /// A name is empty, longer than 255 bytes, `.` or `..`, contains a slash or a zero byte, or comes twice: EIO (own).
+    /// Reserved names are checked like any others.
     Lawless,
-    /// Want of memory: ENOMEM (own).
+    /// Out of memory: ENOMEM (own).
     Memory,
 }
 
-/// What an open folder shows: `.` and `..`, then its names by rising bytes, but those that the server keeps for itself.
-/// It bears its node's number, and its handle once it is stored. Contracts see it as an `OpenFolder`.
+/// What an open folder shows: `.` and `..`, then its names sorted by bytes, without those that the server keeps for
+/// itself. It has its node's number, and its handle after it was stored. Contracts see it as an `OpenFolder`.
 #[derive(Drop)]
 pub struct Listing {
     number: u64,
@@ -38,7 +39,7 @@ impl Model for Listing {
 }
 
 impl Listing {
-    /// The listing of a node's children, under no handle yet (0).
+    /// The listing of a node's children, without a handle yet (0).
     pub fn new(alloc: Global, number: u64, children: Children) -> Result<Listing, ListingFault>
         ensures { IsMade number children result }
     {
@@ -63,28 +64,28 @@ impl Listing {
         self.number
     }
 
-    /// Its handle, or 0 before it was stored.
+    /// Its handle, or 0 before it is stored.
     pub fn fh(&self) -> u64
         ensures { result ≡ self.now.fh }
     {
         self.fh
     }
 
-    /// It is lawful by its type: a call that does nothing.
+    /// For the prover: the type guarantees that it is lawful. It does nothing.
     pub fn attest(&self)
         ensures { IsListing self.now.entries }
     {
         let _ = &self.entries;
     }
 
-    /// The same under a handle.
+    /// The same listing with that handle.
     pub fn under(self, fh: u64) -> Listing
         ensures { result ≡ record self { fh = fh } }
     {
         Listing { fh, ..self }
     }
 
-    /// All that it shows, in order.
+    /// Everything that it shows, in order.
     pub fn entries(&self) -> &[Child]
         ensures { result.now ≡ self.now.entries }
     {
@@ -92,7 +93,7 @@ impl Listing {
     }
 }
 
-/// The names below `.` and `..`.
+/// `.` and `..`, followed by the names.
 fn with_dots(alloc: Global, names: Vec<Child>) -> Result<Vec<Child>, AllocError>
     ensures { IfOk result (λ v. v.items ≡ folder_at (codes ".") ∷ folder_at (codes "..") ∷ names.items) }
 {
@@ -103,7 +104,7 @@ fn with_dots(alloc: Global, names: Vec<Child>) -> Result<Vec<Child>, AllocError>
     Ok(entries)
 }
 
-/// A folder of this name.
+/// A folder with this name.
 fn folder(alloc: Global, name: &str) -> Result<Child, AllocError>
     ensures { IfOk result (λ child. child ≡ folder_at name.now) }
 {

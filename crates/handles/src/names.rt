@@ -12,7 +12,7 @@ use paths::Name;
 use paths::reserved::is_reserved;
 use std::cmp::Ordering;
 
-/// The most bytes of a name (own).
+/// The maximum number of bytes of a name (own).
 const MAX_NAME_LEN: usize = 255;
 
 /// Whether a folder may have the name.
@@ -28,7 +28,7 @@ fn is_lawful(name: &Name) -> bool
         && !bytes.contains(&0)
 }
 
-/// By the bytes of their names.
+/// Compares by the bytes of their names.
 fn compare(a: &Child, b: &Child) -> Ordering
     ensures { result ≡ by_name a.now b.now }
 {
@@ -42,7 +42,7 @@ fn all_lawful(children: &[Child]) -> bool
     children.iter().all(|child| is_lawful(&child.name))
 }
 
-/// Sorts by the bytes of the names. It takes no memory.
+/// Sorts by the bytes of the names. It does not allocate.
 fn sort(children: &mut Vec<Child>)
     ensures moved { IsPermutation children.old.items children.new.items }
     ensures sorted { IsSorted by_name children.new.items }
@@ -50,14 +50,14 @@ fn sort(children: &mut Vec<Child>)
     children.sort_unstable_by(|a, b| compare(a, b));
 }
 
-/// Whether each name is below the next.
+/// Whether each name is below the next one.
 fn are_rising(children: &[Child]) -> bool
     ensures { IsTrue result ↔ IsStrictlySortedBy by_name children.now }
 {
     children.is_sorted_by(|a, b| compare(a, b).is_lt())
 }
 
-/// The children by rising bytes, if each name is lawful and stands once. It takes no memory.
+/// The children sorted by bytes, if each name is lawful and comes once. It does not allocate.
 pub(crate) fn in_order(children: Children) -> Option<Vec<Child>>
     ensures { MatchOption result (are_lawful children ≡ false) (λ v. IsInOrder children v.items) }
 {
@@ -72,7 +72,7 @@ pub(crate) fn in_order(children: Children) -> Option<Vec<Child>>
     Some(names)
 }
 
-/// Takes away the names that the server keeps for itself.
+/// Removes the names that the server keeps for itself.
 pub(crate) fn drop_reserved(children: &mut Vec<Child>)
     ensures { children.new.items ≡ filter (λ child. not (is_reserved child.name)) children.old.items }
 {

@@ -4,17 +4,17 @@ ghost use Rattle.std.specs.Prelude.{◌+◌, ◌^◌, ◌<◌, length};
 
 use backing::Child;
 
-/// Why no page was made.
+/// Why a page could not be made.
 #[derive(Clone, Copy, Debug, PartialEq, Eq)]
 pub enum PageFault {
-    /// An entry stands at the offset and has no room: EINVAL (own).
+    /// There is an entry at the offset, and it does not fit: EINVAL (own).
     Small,
 }
 
 /// Some entries of a listing.
 #[derive(Clone, Copy)]
 pub struct Page<'a> {
-    /// The offset that was asked for: the index of the first entry.
+    /// The requested offset: the index of the first entry.
     pub from: u64,
     pub entries: &'a [Child],
     /// Each entry has an offset after it.

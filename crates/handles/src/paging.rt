@@ -1,4 +1,4 @@
-//! Pages of a listing, by the bytes that they take.
+//! Pages of a listing, by the number of bytes that they take.
 
 ghost use Rattle.std.specs.Prelude.{◌≡◌, ◌≤◌, drop, take, length};
 ghost use Rattle.handles.specs.Pages.{IsPage, IsLongestRun, padded};
@@ -7,15 +7,16 @@ use crate::listing::Listing;
 use crate::page::{Page, PageFault};
 use backing::Child;
 
-/// The bytes before the name of an entry (the header's `fuse_dirent`).
+/// The bytes before the name of an entry (`fuse_dirent`).
 const HEAD_LEN: u64 = 24;
 
-/// The same where the entry's attributes stand before it (the header's `fuse_direntplus`).
+/// The same if the entry's attributes come before it (`fuse_direntplus`).
 const HEAD_LEN_PLUS: u64 = 152;
 
 impl Listing {
-    /// The longest run of entries from the offset on (an index) that takes at most `size` bytes; with `plus` each has its
-    /// attributes before it. Past the end it is empty. It takes no memory, and the time of its own entries alone.
+    /// As many entries as fit in `size` bytes, from the offset on, which is an index. With `plus` each has its
+    /// attributes before it. Past the end the page is empty. It does not allocate, and takes time only for its own
+    /// entries.
     pub fn page(&self, offset: u64, size: u32, plus: bool) -> Result<Page<'_>, PageFault>
         ensures { IsPage plus self.now.entries offset size result }
     {
@@ -39,7 +40,7 @@ fn entries_from(entries: &[Child], offset: u64) -> &[Child]
     &entries[start..]
 }
 
-/// How many entries the longest run has.
+/// How many entries fit.
 fn run_len(entries: &[Child], size: u32, plus: bool) -> usize
     ensures within { result ≤ length entries.now }
     ensures longest { IsLongestRun plus size entries.now (take result entries.now) }
@@ -55,7 +56,7 @@ fn run_len(entries: &[Child], size: u32, plus: bool) -> usize
     entries.len()
 }
 
-/// The bytes of an entry: its head, its name, and zeros up to a multiple of 8.
+/// The bytes of an entry: its head, its name, and padding to a multiple of 8.
 fn padded_len(entry: &Child, plus: bool) -> u64
     ensures { result ≡ padded plus entry.now }
 {

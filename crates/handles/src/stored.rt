@@ -6,14 +6,14 @@ use crate::listing::Listing;
 use sharded_slab::Keeps;
 use std::sync::atomic::{AtomicBool, Ordering};
 
-/// A listing that is stored, and whether its handle was given up.
+/// A listing that is stored, and whether its handle was closed.
 #[derive(Drop)]
 pub(crate) struct Stored {
     pub(crate) listing: Listing,
     is_retired: AtomicBool,
 }
 
-/// The rule that a listing bears its own key.
+/// The rule that a listing contains its own key.
 pub(crate) struct OwnHandle;
 
 impl Keeps<Stored> for OwnHandle {
@@ -23,7 +23,7 @@ impl Keeps<Stored> for OwnHandle {
 }
 
 impl Stored {
-    /// Its handle was not given up.
+    /// A listing whose handle is not closed.
     pub(crate) fn new(listing: Listing) -> Stored
         ensures { result.listing ≡ listing }
     {
@@ -33,7 +33,7 @@ impl Stored {
         }
     }
 
-    /// Gives its handle up. Of all calls one alone is answered true.
+    /// Closes its handle. Exactly one of all calls returns true.
     pub(crate) fn retire(&self) -> bool {
         !self.is_retired.swap(true, Ordering::SeqCst)
     }

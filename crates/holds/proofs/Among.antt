@@ -1,4 +1,4 @@
--- Tests of paths and records, and what they say.
+-- Tests of paths and records, and what they mean.
 use Rattle.std.proofs.Common.{ℕ, ◌&&◌, ◌<◌, ◌≡◌, ◌+◌, true, false, List, Contains, length, get_or, refl, sym, ap, ◌∙◌, subst, arith, inl, inr}
 use Rattle.std.proofs.lemmas.Bool.{and_parts, cases_Bool, cases_eq}
 use Rattle.std.proofs.lemmas.List.{get_or_default}
@@ -22,11 +22,11 @@ among_found ps i d path within e = list_any_at (λ (p : Names). is_prefix p path
 pub among_none : (ps : List Names) (path : Names) → ((k : ℕ) (d : Names) → k < length ps → get_or ps k d ≡ path → ⊥) → is_among ps path ≡ false
 among_none ps path none = list_any_none (λ (p : Names). is_prefix p path && is_prefix path p) ps (λ k d within. other_path (get_or ps k d) path (none k d within))
 
--- who was read at an index
+-- the element that was read at an index
 pub contains_read : {X : Type 0} → (xs : List X) (i : ℕ) (x y : X) → i < length xs → x ≡ get_or xs i x → x ≡ y → Contains xs y
 contains_read xs i x y within read same = (i, within, sym (get_or_default xs i x y within) ∙ (sym read ∙ same))
 
--- an element more for which nothing holds
+-- one more element, for which nothing holds
 pub none_more : {X : Type 0} → (P : X → Type 0) (xs : List X) (i : ℕ) (x : X) → i < length xs → x ≡ get_or xs i x → (P x → ⊥)
     → ((k : ℕ) (d : X) → k < i → P (get_or xs k d) → ⊥) → (k : ℕ) (d : X) → k < i + 1 → P (get_or xs k d) → ⊥
 none_more P xs i x within read other before k d below h = elim (cases_eq k i) [

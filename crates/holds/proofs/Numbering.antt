@@ -1,4 +1,4 @@
--- The numbers of paths, after those of one path were written, and what is counted of a list of paths.
+-- The numbers of paths after those of one path were written, and the counts over a list of paths.
 use Rattle.std.proofs.Common.{ℕ, ◌+◌, ◌<◌, ◌≤◌, ◌≡◌, ◌||◌, ◌&&◌, if◌then◌else◌, Bool, true, false, List, [], ◌∷◌, ◌++◌, Option, Some, None, length, get_or, refl, sym, ap, ◌∙◌, subst, inl, inr, arith}
 use Rattle.std.specs.Prelude.{IsTrue, ◌↔◌, unwrap_or}
 use Rattle.std.specs.Map.{lookup}
@@ -22,7 +22,7 @@ same_path_is p q h = (pointwise_decides bytes_decides p q).0 h
 pub same_path_yes : (p q : Names) → p ≡ q → is_same_path p q ≡ true
 same_path_yes p q e = (pointwise_decides bytes_decides p q).1 e
 
--- two tests of one thing
+-- two tests of the same fact
 test_is : (p q : Names) → (is_prefix p q && is_prefix q p) ≡ is_same_path p q
 test_is p q = elim (cases_Bool (is_same_path p q)) [
   | inl hit ↦ same_path p q (same_path_is p q hit) ∙ sym hit
@@ -67,7 +67,7 @@ counted_seen ps key n there p = elim (cases_Bool (is_same_path key p)) [
   | inr miss ↦ ap (λ (b : Bool). if b then n else 0) (among_push ps key p ∙ or_false (is_among ps p) (is_same_path key p) miss)
 ]
 
--- one that is not
+-- a path that is not
 pub counted_new : (ps : List Names) (key : Names) (n : ℕ) → is_among ps key ≡ false → (p : Names) → counted_in (ps ++ key ∷ []) p n ≡ counted_in ps p n + (if is_same_path key p then n else 0)
 counted_new ps key n absent p = elim (cases_Bool (is_same_path key p)) [
   | inl hit ↦
@@ -126,26 +126,26 @@ module _ (f g : Names → Option Holders) (key : Names) (o : Option Holders) (wr
     | inr miss ↦ old p h (sym (at_other p miss) ∙ there)
   ]
 
--- of two writes of one key the last counts
+-- of two writes to one key the last one counts
 pub rewritten : (f g h : Names → Option Holders) (key : Names) (o p : Option Holders) → ((q : Names) → g q ≡ (if is_same_path key q then o else f q)) → ((q : Names) → h q ≡ (if is_same_path key q then p else g q)) → (q : Names) → h q ≡ (if is_same_path key q then p else f q)
 rewritten f g h key o p first last q = elim (cases_Bool (is_same_path key q)) [
   | inl hit ↦ at_key g h key p last q hit ∙ sym (cond-true (is_same_path key q) p (f q) hit)
   | inr miss ↦ at_other g h key p last q miss ∙ (at_other f g key o first q miss ∙ sym (cond-false (is_same_path key q) p (f q) miss))
 ]
 
--- a path that is put is as good as its copy
+-- a path is as good as its copy
 pub put_at : (f g : Names → Option Holders) (o : Option Holders) {key copy : Names} → copy ≡ key → ((q : Names) → g q ≡ (if is_same_path copy q then o else f q)) → (q : Names) → g q ≡ (if is_same_path key q then o else f q)
 put_at f g o is written = subst (λ (k : Names). (q : Names) → g q ≡ (if is_same_path k q then o else f q)) is written
 
--- what is told of its copy is found at it
+-- what is found for the copy is found for the path
 pub told_at : (f : Names → Option Holders) (told o : Option Holders) {key copy : Names} → copy ≡ key → told ≡ f copy → told ≡ o → f key ≡ o
 told_at f told o is from same = ap f (sym is) ∙ (sym from ∙ same)
 
--- where no path has numbers
+-- no path has numbers
 pub none_found : {S : Type 0} → (m : IndexMap Names (Option Holders) S) → live m ≡ 0 → (p : Names) → found is_same_path m p ≡ None
 none_found m none p = none_living (is_same_path p) m.entries none
 
--- an exact test is the map's
+-- an exact test agrees with the map's
 pub same_test : (b : Bool) (p q : Names) → IsTrue b ↔ (q ≡ p) → b ≡ is_same_path p q
 same_test b p q exact = elim (cases_Bool (is_same_path p q)) [
   | inl hit ↦ exact.1 (sym (same_path_is p q hit)) ∙ sym hit
@@ -155,14 +155,14 @@ same_test b p q exact = elim (cases_Bool (is_same_path p q)) [
   ]
 ]
 
--- entries that stay
+-- entries that do not change
 pub numbers_kept : (old new : HoldNumbers) → new.paths ≡ old.paths → new.by_path.entries ≡ old.by_path.entries → AreNumbers old → AreNumbers new
 numbers_kept old new paths entries law = record {
   counted = paths ∙ (law.counted ∙ ap living (sym entries));
   held = λ p h there. law.held p h (ap (λ (es : List (Names × Option Holders)). joined (lookup (is_same_path p) es)) (sym entries) ∙ there);
 }
 
--- nothing is in the way where nothing is held
+-- if nothing is held, nothing must wait
 pub none_held_up : (numbers : HoldNumbers) (wanted : Held) → AreNumbers numbers → numbers.paths ≡ 0 → IsHeldUp numbers wanted → ⊥
 none_held_up numbers wanted law none held =
     let empty : (p : Names) → holders_on numbers p ≡ no_holders = λ p. ap (λ (o : Option Holders). unwrap_or o no_holders) (none_found numbers.by_path (sym law.counted ∙ none) p) in

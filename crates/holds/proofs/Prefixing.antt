@@ -8,7 +8,7 @@ use Rattle.paths.specs.Prefixes.{Name, Names, is_name, is_prefix, prefixes}
 use Rattle.paths.proofs.PrefixLemmas.{is_name-true, is_prefix-append, is_prefix-same, is_prefix-trans, prefixes-push}
 use Rattle.holds.specs.Conflicts.{ArePrefixes, IsSomePrefix}
 
--- a prefix of a longer path is one of the shorter, or all of it
+-- a prefix of a longer path is a prefix of the shorter one, or the whole longer path
 push_cases : (q p : Names) (name : Name) → is_prefix q (p ++ name ∷ []) ≡ true → (is_prefix q p ≡ true) ⊎ (q ≡ p ++ name ∷ [])
 push_cases [] p name h = inl refl
 push_cases (x ∷ []) [] name h = inr (ap (λ (n : Name). n ∷ []) (is_name-true x name (and_parts (is_name x name) true h).0))

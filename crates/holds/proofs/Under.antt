@@ -1,4 +1,4 @@
--- The path of a name under a path.
+-- The path of a name under a parent.
 use Rattle.std.proofs.Common.{◌+◌, ◌≡◌, ◌++◌, true, [], ◌∷◌, length, get_or, length-append, sym, ap, ◌∙◌, subst, arith}
 use Rattle.std.proofs.Math.Seq.{get_or-append_seam}
 use Rattle.paths.specs.Prefixes.{Name, Names, is_prefix}
@@ -9,7 +9,7 @@ alone_in up [] x one read = absurd (omega (arith, one))
 alone_in up (y ∷ []) x one read = ap (λ (z : Name). up ++ z ∷ []) (sym (read ∙ get_or-append_seam up y [] x))
 alone_in up (y ∷ z ∷ more) x one read = absurd (omega (arith, one))
 
--- one name more than the path above, of which it is a prefix
+-- the path above is a prefix, and there is one name more
 pub under_is : (p up : Names) (x : Name) → length p ≡ length up + 1 → is_prefix up p ≡ true → x ≡ get_or p (length up) x → p ≡ up ++ x ∷ []
 under_is p up x long begins read =
     let it = is_prefix-more up p begins in

@@ -1,4 +1,4 @@
--- A list that needs no memory for one item.
+-- A list that needs no allocation for one item.
 use Rattle.std.specs.Prelude.{List, [], ◌∷◌}
 use Rattle.holds.specs.declared.few.Few.{Few}
 use Rattle.holds.specs.declared.few.Few.TheVariants.{Nothing, One, Many}

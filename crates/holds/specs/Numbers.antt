@@ -12,7 +12,7 @@ use Rattle.holds.specs.Conflicts.{is_among}
 abbrev pub is_same_path : Names → Names → Bool
 is_same_path = pointwise (pointwise nat_eq)
 
--- nobody holds it
+-- no request holds the path
 abbrev pub no_holders : Holders
 no_holders = record { shared = 0; exclusive = 0 }
 
@@ -20,31 +20,31 @@ no_holders = record { shared = 0; exclusive = 0 }
 abbrev pub holders_on : HoldNumbers → Names → Holders
 holders_on numbers path = unwrap_or (found is_same_path numbers.by_path path) no_holders
 
--- what a request counts where it holds these paths so: once, however often the path is among them
+-- what a request with these paths adds to the number of this path: once, even if the path is in the list several times
 abbrev pub counted_in : List Names → Names → ℕ → ℕ
 counted_in paths path one = if is_among paths path then one else 0
 
--- each path has the numbers that are told, and those that nobody holds take no place
+-- the map has the numbers of each held path, and no entry for a path without holders
 pub record AreNumbers (numbers : HoldNumbers) : Type 0 where
   pub counted : numbers.paths ≡ live numbers.by_path
   pub held : (path : Names) (h : Holders) → found is_same_path numbers.by_path path ≡ Some h → 0 < h.shared + h.exclusive
 
--- so many paths more take no memory
+-- that many more paths need no allocation
 pub record HasPlaces (numbers : HoldNumbers) (more : ℕ) : Type 0 where
   pub places : 2 * (live numbers.by_path + more) ≤ places numbers.by_path
   pub few : live numbers.by_path + more < 2 ^ 64
 
--- of each path one number or both rise by these, where it is among the paths
+-- the numbers of each path in the list rise by these, and the others do not change
 pub record Raises (old : HoldNumbers) (paths : List Names) (one : Holders) (new : HoldNumbers) : Type 0 where
   pub shared : (path : Names) → (holders_on new path).shared ≡ (holders_on old path).shared + counted_in paths path one.shared
   pub exclusive : (path : Names) → (holders_on new path).exclusive ≡ (holders_on old path).exclusive + counted_in paths path one.exclusive
 
--- one request more holds what is held
+-- one more request holds this
 pub record Adds (old : HoldNumbers) (held : Held) (new : HoldNumbers) : Type 0 where
   pub shared : (path : Names) → (holders_on new path).shared ≡ (holders_on old path).shared + counted_in held.shared path 1
   pub exclusive : (path : Names) → (holders_on new path).exclusive ≡ (holders_on old path).exclusive + counted_in held.exclusive path 1
 
--- a path that is wanted exclusively is held, or one that is to be shared is held exclusively
+-- a path that is wanted exclusively is held by some request, or one that is wanted shared is held exclusively
 abbrev pub IsHeldUp : HoldNumbers → Held → Type 0
 IsHeldUp numbers wanted =
     Any (λ path. 0 < (holders_on numbers path).shared + (holders_on numbers path).exclusive) wanted.exclusive

@@ -1,4 +1,4 @@
--- What is fed to a hasher of a path in two parts: it is what is fed of the whole.
+-- Hashing a path in two parts gives the hasher the same input as hashing it whole.
 use Rattle.std.specs.Prelude.{◌≡◌, ◌++◌, [], ◌∷◌, true, ℕ, List}
 use Rattle.std.specs.List.{flat_map}
 use Rattle.std.specs.Hash as fed

@@ -1,4 +1,4 @@
-//! A list that needs no memory for one item.
+//! A list that needs no allocation for one item.
 
 ghost use Rattle.std.specs.Prelude.{◌≡◌, ◌++◌, ◌∷◌, [], OnOk};
 ghost use Rattle.std.specs.Mem.{FitsInMemory};
@@ -7,7 +7,7 @@ ghost use Rattle.holds.specs.Few.{items_of};
 use std::alloc::{AllocError, Global};
 use std::{mem, slice};
 
-/// A list that needs no memory for one item.
+/// A list that needs no allocation for one item.
 #[derive(Drop)]
 pub(crate) enum Few<T> {
     Nothing,
@@ -28,7 +28,8 @@ impl<T: Drop> Few<T> {
         }
     }
 
-    /// Makes room for so many more behind none or many. Want of memory is the only error: then the items are as they were.
+    /// Makes room for `more` items, unless the list has exactly one. Out of memory is the only error; then the items do
+    /// not change.
     pub(crate) fn reserve(&mut self, alloc: Global, more: usize) -> Result<(), AllocError>
         ensures { items_of self.new ≡ items_of self.old }
     {
@@ -40,7 +41,7 @@ impl<T: Drop> Few<T> {
         Ok(())
     }
 
-    /// Puts the item behind the others. Want of memory is the only error: then the items are lost.
+    /// Appends the item. Out of memory is the only error; then the items are lost.
     pub(crate) fn push(&mut self, alloc: Global, item: T) -> Result<(), AllocError>
         ensures { OnOk result (items_of self.new ≡ items_of self.old ++ item ∷ []) }
     {

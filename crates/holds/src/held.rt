@@ -1,4 +1,4 @@
-//! What a request holds while it is worked on.
+//! What a request holds while work on it is in progress.
 
 ghost use Rattle.std.specs.Prelude.{◌≡◌, ◌↔◌, ◌++◌, ◌∷◌, [], ℕ, List, IsTrue, Contains, OnOk};
 
@@ -8,7 +8,7 @@ use paths::{Name, Path};
 use std::alloc::{AllocError, Global};
 use std::marker::Model;
 
-/// A node that a request names, with its path when the request began.
+/// A node that a request names, with its path from the time when the request began.
 #[derive(Drop)]
 pub struct GivenPath {
     pub number: u64,
@@ -32,7 +32,7 @@ impl Model for GivenPaths {
 }
 
 impl GivenPaths {
-    /// None.
+    /// No nodes.
     pub fn new() -> GivenPaths
         ensures { result ≡ [] }
     {
@@ -41,7 +41,7 @@ impl GivenPaths {
         }
     }
 
-    /// That node alone.
+    /// That node only.
     pub fn one(lead: GivenPath) -> GivenPaths
         ensures { result ≡ lead ∷ [] }
     {
@@ -59,7 +59,7 @@ impl GivenPaths {
         }
     }
 
-    /// Puts the node behind the others. The first one takes no memory.
+    /// Appends the node. The first one needs no allocation.
     pub fn push(&mut self, alloc: Global, lead: GivenPath) -> Result<(), AllocError>
         ensures { OnOk result (self.new ≡ self.old ++ lead ∷ []) }
     {
@@ -73,7 +73,7 @@ impl GivenPaths {
     }
 }
 
-/// Some paths. Contracts see a list.
+/// A list of paths. Contracts see a list.
 #[derive(Drop)]
 pub struct Paths {
     paths: Few<Path>,
@@ -91,7 +91,7 @@ impl Model for Paths {
 impl Paths {
     ghost use Rattle.holds.specs.Conflicts.{Overlaps, is_among};
 
-    /// None.
+    /// No paths.
     pub fn new() -> Paths
         ensures { result ≡ [] }
     {
@@ -100,7 +100,7 @@ impl Paths {
         }
     }
 
-    /// That path alone.
+    /// That path only.
     pub fn one(path: Path) -> Paths
         ensures { result ≡ path ∷ [] }
     {
@@ -124,21 +124,21 @@ impl Paths {
         self.paths.as_slice()
     }
 
-    /// Puts the path behind the others. The first one takes no memory.
+    /// Appends the path. The first one needs no allocation.
     pub fn push(&mut self, alloc: Global, path: Path) -> Result<(), AllocError>
         ensures { OnOk result (self.new ≡ self.old ++ path ∷ []) }
     {
         self.paths.push(alloc, path)
     }
 
-    /// Makes room for so many paths more behind none or many.
+    /// Makes room for `more` paths, unless the list has exactly one.
     pub(crate) fn reserve(&mut self, alloc: Global, more: usize) -> Result<(), AllocError>
         ensures { self.new ≡ self.old }
     {
         self.paths.reserve(alloc, more)
     }
 
-    /// Whether the path is one of them.
+    /// Whether the path is in the list.
     pub fn contains(&self, path: &Path) -> bool
         ensures among { result ≡ is_among self.now path.now }
         ensures found { IsTrue result ↔ Contains self.now path.now }
@@ -146,14 +146,14 @@ impl Paths {
         contains(self.as_slice(), path)
     }
 
-    /// Whether the path of the name under the parent's path is one of them. That path is not made.
+    /// Whether the list has the path of the name under the parent. That path is not built.
     pub fn contains_name(&self, parent: &Path, name: &Name) -> bool
         ensures { IsTrue result ↔ Contains self.now (parent.now ++ name.now ∷ []) }
     {
         contains_name(self.as_slice(), parent, name)
     }
 
-    /// Whether some path is one of these and one of those.
+    /// Whether some path is in both lists.
     pub fn overlaps(&self, other: &Paths) -> bool
         ensures { IsTrue result ↔ Overlaps self.now other.now }
     {
@@ -166,21 +166,21 @@ impl Paths {
     }
 }
 
-/// The nodes that a request names, and the names that it holds, whether or not a node stands there.
+/// The nodes that a request names, and the names that it holds, whether or not they have nodes.
 #[derive(Drop)]
 pub struct Held {
     /// The nodes that it names.
     pub given: GivenPaths,
-    /// The names that others may hold too, but not alone.
+    /// The names that it shares: others may hold them too, but not exclusively.
     pub shared: Paths,
-    /// The names that it alone may hold.
+    /// The names that only this request may hold.
     pub exclusive: Paths,
 }
 
 impl Held {
     ghost use Rattle.holds.specs.Conflicts.{Excludes, Conflict};
 
-    /// Whether an exclusive name of this one is a name of the other.
+    /// Whether an exclusive name of this request is a name of the other.
     fn excludes(&self, other: &Held) -> bool
         ensures { IsTrue result ↔ Excludes self.now other.now }
     {

@@ -1,4 +1,4 @@
-//! What requests in flight hold, so that those that touch the same names wait for one another.
+//! What requests in flight hold, so that requests for the same names wait for one another.
 #![tactic(auto)]
 
 mod few;

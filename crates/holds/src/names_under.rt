@@ -1,4 +1,4 @@
-//! The path of a name under a path, looked up without being made.
+//! Looking up the path of a name under a parent without building that path.
 
 ghost use Rattle.std.specs.Prelude.{◌≡◌, ◌↔◌, ◌++◌, ◌∷◌, [], IsTrue, nat_eq};
 ghost use Rattle.std.specs.Cmp.Lexicographic.{bytes_decides, lists_equiv, nat_list_eq_equiv, pointwise, pointwise_decides};
@@ -27,7 +27,7 @@ impl<'a> Equivalent<Path> for NameUnder<'a> {
     }
 }
 
-/// Whether the path is that of the name under the parent's path.
+/// Whether `path` is the path of the name under the parent.
 pub(crate) fn is_under(path: &Path, parent: &Path, name: &Name) -> bool
     ensures { IsTrue result ↔ (path.now ≡ parent.now ++ name.now ∷ []) }
 {

@@ -1,7 +1,8 @@
 //! How many requests hold each path.
 //!
-//! A path counts once for each request, however often it is listed there. What is asked about a path is one look-up,
-//! however many requests are in flight. Room is made as a request is added, so that its end takes no memory.
+//! A path counts once per request, even if it is in the request's list several times. A query about a path is one
+//! look-up, however many requests are in flight. Room is made when a request is added, so that its end does not
+//! allocate.
 
 ghost use Rattle.std.specs.Prelude.{◌≡◌, ◌<◌, ◌≤◌, ◌+◌, ◌*◌, ◌^◌, ◌↔◌, ◌++◌, ◌∷◌, [], true, false, if◌then◌else◌, Any, IfOk, IsTrue, OnErr, OnOk, length};
 ghost use Rattle.paths.specs.Prefixes.{Names};
@@ -25,19 +26,19 @@ pub struct Holders {
     pub exclusive: u64,
 }
 
-/// Nobody.
+/// No holders.
 const NOBODY: Holders = Holders {
     shared: 0,
     exclusive: 0,
 };
 
-/// One that shares it.
+/// One request that shares the path.
 const SHARER: Holders = Holders {
     shared: 1,
     exclusive: 0,
 };
 
-/// One that holds it exclusively.
+/// One request that holds the path exclusively.
 const OWNER: Holders = Holders {
     shared: 0,
     exclusive: 1,
@@ -52,7 +53,7 @@ pub struct HoldNumbers {
 }
 
 impl HoldNumbers {
-    /// Nothing is held. The map hashes by that seed.
+    /// No path is held. The map hashes with that seed.
     pub fn new(alloc: Global, seed: RandomState) -> HoldNumbers
         ensures none { (path : Names) → holders_on result path ≡ no_holders }
         ensures law { AreNumbers result }
@@ -63,7 +64,7 @@ impl HoldNumbers {
         }
     }
 
-    /// The numbers of the path.
+    /// How many requests share the path, and how many hold it exclusively.
     pub fn holders_on(&self, path: &Path) -> Holders
         ensures { result ≡ holders_on self.now path.now }
     {
@@ -73,7 +74,7 @@ impl HoldNumbers {
         }
     }
 
-    /// Whether somebody holds the name under the path exclusively. It takes no memory.
+    /// Whether some request holds the name under the parent exclusively. It does not allocate.
     pub fn is_held_exclusively(&self, parent: &Path, name: &Name) -> bool
         ensures { IsTrue result ↔ (0 < (holders_on self.now (parent.now ++ name.now ∷ [])).exclusive) }
     {
@@ -83,7 +84,7 @@ impl HoldNumbers {
         }
     }
 
-    /// Whether a request that wants to hold this has to wait for others.
+    /// Whether a request that wants to hold this must wait for others.
     pub fn holds_up(&self, wanted: &Held) -> bool
         requires { AreNumbers self.now }
         ensures { IsTrue result ↔ IsHeldUp self.now wanted.now }
@@ -95,7 +96,7 @@ impl HoldNumbers {
             || self.is_any_exclusive(wanted.shared.as_slice())
     }
 
-    /// Whether one of the paths is held.
+    /// Whether some request holds one of the paths.
     fn is_any_held(&self, paths: &[Path]) -> bool
         ensures { IsTrue result ↔ Any (λ path. 0 < (holders_on self.now path).shared + (holders_on self.now path).exclusive) paths.now }
     {
@@ -108,7 +109,7 @@ impl HoldNumbers {
         false
     }
 
-    /// Whether one of the paths is held exclusively.
+    /// Whether some request holds one of the paths exclusively.
     fn is_any_exclusive(&self, paths: &[Path]) -> bool
         ensures { IsTrue result ↔ Any (λ path. 0 < (holders_on self.now path).exclusive) paths.now }
     {
@@ -120,7 +121,7 @@ impl HoldNumbers {
         false
     }
 
-    /// One request more holds this. Want of memory is the only error: then all numbers are as they were.
+    /// Adds a request that holds this. Out of memory is the only error; then no number changes.
     pub fn add(&mut self, held: &Held) -> Result<(), AllocError>
         requires law { AreNumbers self.old }
         requires few { (path : Names) → ((holders_on self.old path).shared + 1 < 2 ^ 64) × ((holders_on self.old path).exclusive + 1 < 2 ^ 64) }
@@ -140,7 +141,7 @@ impl HoldNumbers {
         }
     }
 
-    /// Makes room for so many paths more.
+    /// Makes room for `more` further paths.
     fn reserve(&mut self, more: usize) -> Result<(), AllocError>
         requires law { AreNumbers self.old }
         ensures ok { OnOk result (HasPlaces self.new more) }
@@ -152,7 +153,7 @@ impl HoldNumbers {
         Ok(())
     }
 
-    /// A request no longer holds this. It takes no memory.
+    /// Removes a request that held this. It does not allocate.
     pub fn drop_holds(&mut self, held: &Held)
         requires law { AreNumbers self.old }
         requires shared { (path : Names) → counted_in held.now.shared path 1 ≤ (holders_on self.old path).shared }
@@ -165,7 +166,8 @@ impl HoldNumbers {
     }
 }
 
-/// One holder more of the path, for which there is room. The error is that no further copy of the path can be counted: then nothing changes.
+/// Adds one holder of the path, for which there is room. The only error is that the path's reference count cannot grow
+/// further; then nothing changes.
 fn raise(numbers: &mut HoldNumbers, path: &Path, one: Holders) -> Result<(), AllocError>
     requires law { AreNumbers numbers.old }
     requires some { 0 < one.shared + one.exclusive }
@@ -193,7 +195,7 @@ fn raise(numbers: &mut HoldNumbers, path: &Path, one: Holders) -> Result<(), All
     Ok(())
 }
 
-/// One holder less of the path. It takes no memory.
+/// Removes one holder of the path. It does not allocate.
 fn lower(numbers: &mut HoldNumbers, path: &Path, one: Holders)
     requires law { AreNumbers numbers.old }
     requires some { 0 < one.shared + one.exclusive }
@@ -217,7 +219,8 @@ fn lower(numbers: &mut HoldNumbers, path: &Path, one: Holders)
     }
 }
 
-/// One holder more of each of the paths, for which there is room. The error is that no further copy of one can be counted: then all numbers are as they were.
+/// Adds one holder of each of the paths, for which there is room. The only error is that the reference count of one
+/// cannot grow further; then no number changes.
 fn raise_all(numbers: &mut HoldNumbers, paths: &[Path], one: Holders) -> Result<(), AllocError>
     requires law { AreNumbers numbers.old }
     requires some { 0 < one.shared + one.exclusive }
@@ -241,7 +244,8 @@ fn raise_all(numbers: &mut HoldNumbers, paths: &[Path], one: Holders) -> Result<
     Ok(())
 }
 
-/// One holder more of the path, for which there is room, unless it is among those before it. The error is that of `raise`.
+/// Adds one holder of the path, for which there is room, unless `before` has the path too. The error is that of
+/// `raise`.
 fn raise_once(
     numbers: &mut HoldNumbers,
     before: &[Path],
@@ -266,7 +270,7 @@ fn raise_once(
     raise(numbers, path, one)
 }
 
-/// One holder less of each of the paths. It takes no memory.
+/// Removes one holder of each of the paths. It does not allocate.
 fn lower_all(numbers: &mut HoldNumbers, paths: &[Path], one: Holders)
     requires law { AreNumbers numbers.old }
     requires some { 0 < one.shared + one.exclusive }
@@ -280,7 +284,7 @@ fn lower_all(numbers: &mut HoldNumbers, paths: &[Path], one: Holders)
     }
 }
 
-/// One holder less of the path, unless it is among those before it. It takes no memory.
+/// Removes one holder of the path, unless `before` has the path too. It does not allocate.
 fn lower_once(numbers: &mut HoldNumbers, before: &[Path], path: &Path, one: Holders)
     requires law { AreNumbers numbers.old }
     requires some { 0 < one.shared + one.exclusive }

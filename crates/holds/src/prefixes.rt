@@ -8,7 +8,7 @@ use crate::held::Paths;
 use paths::Path;
 use std::alloc::{AllocError, Global};
 
-/// Every prefix of the path but the empty one, the path itself last. All share its names.
+/// All prefixes of the path except the empty one, with the path itself last. They share its names.
 pub fn prefixes_of(alloc: Global, path: &Path) -> Result<Paths, AllocError>
     ensures whole { IfOk result (λ ps. ps ≡ prefixes_in path.now) }
     ensures set { IfOk result (λ ps. ArePrefixes ps path.now) }
@@ -18,7 +18,7 @@ pub fn prefixes_of(alloc: Global, path: &Path) -> Result<Paths, AllocError>
     Ok(prefixes)
 }
 
-/// Puts every prefix of the path but the empty one behind the others, the path itself last.
+/// Appends all prefixes of the path except the empty one, with the path itself last.
 pub fn push_prefixes(alloc: Global, paths: &mut Paths, path: &Path) -> Result<(), AllocError>
     ensures { OnOk result (paths.new ≡ paths.old ++ prefixes_in path.now) }
 {

@@ -1,4 +1,4 @@
--- Totals fit, and what a closing leaves is a ledger again.
+-- Totals fit, and closing a period leaves a ledger again.
 use Rattle.std.proofs.Common.{ℕ, suc, zero, ◌+◌, ◌<◌, ◌≤◌, ◌^◌, ◌≡◌, cond, List, [], ◌∷◌, map, take, refl, sym, ap, subst, ◌∙◌, arith, All, Contains, AllPairs, length, get_or, ◌&&◌, ◌==◌, Bool, ◌≢◌}
 use Rattle.std.specs.Prelude.{count_by, sum_by}
 use Rattle.std.proofs.lemmas.Bool.{eqb-true, eq-eqb, and_parts, and_from, false_from_ne_true}
@@ -16,7 +16,7 @@ use Rattle.ledger.proofs.Balances.{IsCovered, covered_all, left_all, left_in}
 use Rattle.ledger.proofs.SharesLemmas.{plus-nothing, totals_over-push}
 use Rattle.ledger.proofs.SumsLemmas.{sum_by-plus, given_back_of-le, never_negative-push}
 
--- the periods of a ledger from its parts
+-- the periods of a ledger, given its parts
 abbrev pub periods_of : List KeptBirths → Totals → List Posting → Periods
 periods_of births totals last = record { births = births; totals = totals; last = last }
 
@@ -30,7 +30,7 @@ pub totals_over-covered : (ps : Periods) → IsNeverNegative ps → IsCarriedOve
 totals_over-covered ps never carried =
     omega (arith, covered_all ps.last (covers ps never), carried.left, sum_by-plus carried_by (λ p. (totals_by p).entries) ps.last, sum_by-plus (λ p. (totals_by p).backs) (λ p. (totals_by p).forgotten) ps.last)
 
--- no other posting than an opening carries anything
+-- only openings carry anything
 carries_none : (ps : Periods) (p : Posting) → IsCountable ps p → carried_by p ≡ 0
 carries_none ps (Born n g) may = refl
 carries_none ps (Entry n g) may = refl
@@ -59,16 +59,16 @@ more_fits ps (Back n g) may fits = record { born = omega (arith, fits.born); ent
 more_fits ps (Forget n g k) may fits = record { born = omega (arith, fits.born); entries = omega (arith, fits.entries) }
 more_fits ps (Opening n g k) may fits = absurd may
 
--- the totals fit with one posting more
+-- the totals still fit after one more posting
 pub fits-push : (ps : Periods) (p : Posting) → IsNeverNegative ps → IsCarriedOver ps → IsAllowed ps p → IsCountable ps p → Fits (totals_over ps) → Fits (totals_over (posted ps p))
 fits-push ps p never carried may countable fits =
     let covered = totals_over-covered (posted ps p) (never_negative-push ps p never may) (carried-push ps p countable carried) in
     let small : IsSmall (totals_over (posted ps p)) = subst IsSmall (sym (totals_over-push ps p)) (more_fits ps p countable fits) in
     record { born = small.born; entries = small.entries; backs = omega (arith, covered, small.entries); forgotten = omega (arith, covered, small.entries) }
 
--- ---- a period that begins
+-- ---- a new period
 
--- openings count nothing, and give nothing back
+-- openings add nothing to the totals, and give nothing back
 openings_nothing : (old : Periods) (pairs : List (ℕ × ℕ)) → totals_of (map (opening_of old) pairs) ≡ nothing
 openings_nothing old [] = refl
 openings_nothing old (a ∷ pairs) = openings_nothing old pairs
@@ -86,7 +86,7 @@ none_given old pairs zero n g = refl
 none_given old [] (suc k) n g = refl
 none_given old (a ∷ pairs) (suc k) n g = omega (arith, none_given old pairs k n g, sum_by-cons (given_by n g) (opening_of old a) (take k (map (opening_of old) pairs)))
 
--- what a closing leaves is never negative, and is carried over
+-- after closing, no count is negative, and the closed periods are carried over
 pub closed_never : (old new : Periods) (alive : List (ℕ × ℕ)) → new.last ≡ map (opening_of old) alive → IsNeverNegative new
 closed_never old new alive last = record {
   within = λ k n g. rw last (omega (arith, none_given old alive k n g));
@@ -98,14 +98,14 @@ closed_births old new alive closes n =
     let none : count_by (is_birth n) new.last ≡ 0 = ap (count_by (is_birth n)) closes.last ∙ none_born old alive n in
     omega (arith, none, closes.births n)
 
--- the totals of all periods are as they were
+-- the totals of all periods do not change
 pub closed_totals : (old new : Periods) (alive : List (ℕ × ℕ)) → Closes old alive new → totals_over new ≡ totals_over old
 closed_totals old new alive closes =
     let none : totals_of new.last ≡ nothing = ap totals_of closes.last ∙ openings_nothing old alive in
     let plain : totals_over new ≡ plus new.totals nothing = ap (plus new.totals) none in
     plain ∙ (plus-nothing new.totals ∙ closes.totals)
 
--- it begins with all that was left
+-- the new period begins with everything that was left
 pub closed_left : (old new : Periods) (alive : List (ℕ × ℕ)) → IsNeverNegative old → IsCarriedOver old → AreAllAlive old alive → new.totals ≡ totals_over old → new.last ≡ map (opening_of old) alive
     → new.totals.backs + new.totals.forgotten + sum_by carried_by new.last ≡ new.totals.entries
 closed_left old new alive never carried all totals last =
@@ -115,7 +115,7 @@ closed_left old new alive never carried all totals last =
     let entries = sum_by-plus carried_by (λ p. (totals_by p).entries) old.last in
     rw totals (omega (arith, sum, opened, given, entries, carried.left))
 
--- nothing was given back yet of any
+-- in the new period nothing was given back yet
 pub closed_given : (old new : Periods) (alive : List (ℕ × ℕ)) → new.last ≡ map (opening_of old) alive → (n g : ℕ) → given_back_of n g new ≡ 0
 closed_given old new alive last n g = rw last (given_none alive)
   where
@@ -139,7 +139,7 @@ entered_none old n g (a ∷ pairs) none =
     let first = other_opening old n g a (All-head (λ b. b ≢ (n, g)) a pairs none) in
     omega (arith, first, entered_none old n g pairs (All-tail (λ b. b ≢ (n, g)) a pairs none), sum_by-cons (entered_by n g) (opening_of old a) (map (opening_of old) pairs))
 
--- nothing was entered of those that are not among them
+-- in the new period nothing was entered for a number and generation that has no opening
 pub closed_absent : (old new : Periods) (alive : List (ℕ × ℕ)) → new.last ≡ map (opening_of old) alive → (n g : ℕ) → (Contains alive (n, g) → ⊥) → entries_of n g new ≡ 0
 closed_absent old new alive last n g absent = rw last (entered_none old n g alive (λ k d within same. absent (subst (Contains alive) same (Contains-get_or alive k d within))))
 
@@ -153,6 +153,6 @@ entered_once old n g (a ∷ pairs) once (suc k) within is =
     let first : a ≡ (n, g) → ⊥ = λ same. once 0 (suc k) (n, g) (omega arith) within (same ∙ sym is) in
     omega (arith, other_opening old n g a first, entered_once old n g pairs later k (omega arith) is, sum_by-cons (entered_by n g) (opening_of old a) (map (opening_of old) pairs))
 
--- and of those that are as much as was left
+-- and for one that has an opening, as much as was left
 pub closed_present : (old new : Periods) (alive : List (ℕ × ℕ)) → AllPairs (λ a b. a ≢ b) alive → new.last ≡ map (opening_of old) alive → (n g : ℕ) → Contains alive (n, g) → entries_of n g new ≡ count_of n g old
 closed_present old new alive once last n g there = rw last (entered_once old n g alive once there.0 there.1 there.2)

@@ -1,4 +1,4 @@
--- A period that has nothing but openings: they count nothing, and give nothing back.
+-- A period with nothing but openings: they add nothing to the totals, and give nothing back.
 use Rattle.std.proofs.Common.{ℕ, ◌≡◌, ◌≤◌, cond, true, List, take, refl, ap, ◌∙◌, arith, All}
 use Rattle.std.specs.Prelude.{count_by, sum_by}
 use Rattle.std.proofs.lemmas.Bool.{false≢true}
@@ -22,7 +22,7 @@ opening_none f none (Back n g) is = absurd (false≢true is)
 opening_none f none (Forget n g k) is = absurd (false≢true is)
 opening_none f none (Opening n g k) is = omega (arith, none n g k)
 
--- they have none of in all
+-- all of them together have none of it
 pub none_in : (f : Posting → ℕ) → ((n g k : ℕ) → f (Opening n g k) ≡ 0) → (ps : List Posting) → AreOpenings ps → sum_by f ps ≡ 0
 none_in f none ps all = omega (arith, sum_by-le f 0 ps (All-weaker (λ (p : Posting). is_opening p ≡ true) (λ p. f p ≤ 0) (opening_none f none) ps all))
 
@@ -35,7 +35,7 @@ openings_count_nothing ps all = λ i. record {
 }
 
 module _ (ps : Periods) (all : AreOpenings ps.last) where
-  -- so the totals are those that were closed
+  -- so the totals are those of the closed periods
   pub begun_totals : totals_over ps ≡ ps.totals
   begun_totals = ap (plus ps.totals) (openings_count_nothing ps.last all) ∙ plus-nothing ps.totals
 

@@ -1,4 +1,4 @@
--- The births of all numbers, as a list by rising numbers.
+-- The births of all numbers, as a list sorted by number.
 use Rattle.std.proofs.Common.{ℕ, ◌+◌, ◌-◌, ◌≡◌, ◌≢◌, ◌==◌, ◌<◌, ◌≤◌, cond, List, All, get_or, length, set, refl, sym, ap, ◌∙◌, inl, inr, arith}
 use Rattle.std.specs.Prelude.{nat_eq, sum_by, Result, Ok, Err}
 use Rattle.std.specs.List.{insert}
@@ -15,7 +15,7 @@ use Rattle.ledger.specs.declared.births.KeptBirths.{KeptBirths}
 use Rattle.ledger.specs.Births.{IsPlaceOf, IsRising}
 use Rattle.ledger.specs.Sums.{births_closed}
 
--- how often this says that the number was born
+-- how many births of the number this entry counts
 abbrev births_by : ℕ → KeptBirths → ℕ
 births_by n b = cond (b.number == n) b.count 0
 
@@ -28,14 +28,14 @@ of_itself n b same = rw (eq-eqb b.number n same) refl
 closed_without : (n : ℕ) (bs : List KeptBirths) → All (λ (b : KeptBirths). births_by n b ≤ 0) bs → births_closed n bs ≡ 0
 closed_without n bs none = let few = sum_by-le (births_by n) 0 bs none in omega (arith, few)
 
--- a number between those below it and those above it was not born
+-- a number that would be inserted was not born
 pub closed_nowhere : (n : ℕ) (bs : List KeptBirths) (i : ℕ) → IsPartitionPoint (λ (b : KeptBirths). b.number < n) (λ (b : KeptBirths). n < b.number) bs i → births_closed n bs ≡ 0
 closed_nowhere n bs i (below, above) = closed_without n bs (λ k d within. elim (cases_lt k i) [
   | inl before ↦ let less = below k d (omega arith) before in rw (of_another n (get_or bs k d) (λ e. absurd (omega (arith, e, less)))) (omega arith)
   | inr after ↦ let more = above k d after within in rw (of_another n (get_or bs k d) (λ e. absurd (omega (arith, e, more)))) (omega arith)
 ])
 
--- the births of a number stand at its place
+-- the births of a number are at its index
 pub closed_at : (n : ℕ) (bs : List KeptBirths) (i : ℕ) (d : KeptBirths) → IsRising bs → i < length bs → (get_or bs i d).number ≡ n → births_closed n bs ≡ (get_or bs i d).count
 closed_at n bs i d rising within here =
     let nothing : KeptBirths = record { number = n; count = 0 } in
@@ -53,7 +53,7 @@ closed_at n bs i d rising within here =
     let is = of_itself n nothing refl in
     omega (arith, none, change, was, is)
 
--- one birth more at the place of the number
+-- one more birth at the index of the number
 pub raised_at : (m n : ℕ) (bs : List KeptBirths) (i : ℕ) (old : KeptBirths) → i < length bs → old ≡ get_or bs i old → old.number ≡ n
     → births_closed m (set bs i (record { number = old.number; count = old.count + 1 })) ≡ births_closed m bs + cond (nat_eq n m) 1 0
 raised_at m n bs i old within there here =
@@ -70,7 +70,7 @@ pub raised_new : (m n : ℕ) (bs : List KeptBirths) (i : ℕ)
     → births_closed m (insert bs i (record { number = n; count = 1 })) ≡ births_closed m bs + cond (nat_eq n m) 1 0
 raised_new m n bs i = sum_by-insert (births_by m) bs i (record { number = n; count = 1 })
 
--- numbers rise still where only a count is written
+-- the list stays sorted if only a count changes
 pub rising_set : (bs : List KeptBirths) (i count : ℕ) (old : KeptBirths) → IsRising bs → i < length bs → old ≡ get_or bs i old → IsRising (set bs i (record { number = old.number; count = count }))
 rising_set bs i count old rising within there = λ j k e before inside.
     let new : KeptBirths = record { number = old.number; count = count } in
@@ -82,7 +82,7 @@ rising_set bs i count old rising within there = λ j k e before inside.
     let less = rising j k e before (omega (arith, inside, long)) in
     omega (arith, same j (omega (arith, inside, long, before)), same k (omega (arith, inside, long)), less)
 
--- all births together
+-- the sum of all births
 pub more_at : (bs : List KeptBirths) (i : ℕ) (old : KeptBirths) → i < length bs → old ≡ get_or bs i old
     → sum_by (λ (b : KeptBirths). b.count) (set bs i (record { number = old.number; count = old.count + 1 })) ≡ sum_by (λ (b : KeptBirths). b.count) bs + 1
 more_at bs i old within there =
@@ -92,7 +92,7 @@ more_at bs i old within there =
 pub more_new : (bs : List KeptBirths) (i n : ℕ) → sum_by (λ (b : KeptBirths). b.count) (insert bs i (record { number = n; count = 1 })) ≡ sum_by (λ (b : KeptBirths). b.count) bs + 1
 more_new bs i n = sum_by-insert (λ (b : KeptBirths). b.count) bs i (record { number = n; count = 1 })
 
--- and where a number comes between those below it and those above it
+-- the list stays sorted if a number is inserted at its place
 pub rising_insert : (bs : List KeptBirths) (i : ℕ) (b : KeptBirths) → IsRising bs → i ≤ length bs → IsPartitionPoint (λ (c : KeptBirths). c.number < b.number) (λ (c : KeptBirths). b.number < c.number) bs i → IsRising (insert bs i b)
 rising_insert bs i b rising within (below, above) = λ j k e before inside.
     let long = length-insert bs i b within in
@@ -116,7 +116,7 @@ rising_insert bs i b rising within (below, above) = λ j k e before inside.
           ])
     ]
 
--- what a search by the number asks of the list
+-- what a binary search by number requires of the list
 most : (o : Ordering) → ordering_index o ≤ 2
 most Less = omega arith
 most Equal = omega arith
@@ -164,14 +164,14 @@ rises_by n bs rising = λ i j d before within. elim (cases_eq i j) [
   | inr other ↦ let less = rising i j d (omega (arith, before, other)) within in rises (get_or bs i d).number (get_or bs j d).number n (omega (arith, less))
 ]
 
--- where a search ended
+-- the result of a search
 pub place_found : (n : ℕ) (bs : List KeptBirths) (r : Result ℕ ℕ) → IsRising bs → IsSearchInRange r (length bs) → IsBinarySearchResult (λ (b : KeptBirths). nat_cmp b.number n) bs r → IsPlaceOf bs n r
 place_found n bs (Ok i) rising within here = (within, λ d. is_equal (get_or bs i d).number n (here d))
 place_found n bs (Err i) rising within parts =
     let (below, above) = parts (rises_by n bs rising) in
     (within, ((λ k d least most. is_less (get_or bs k d).number n (below k d least most)), (λ k d least most. is_greater (get_or bs k d).number n (above k d least most))))
 
--- a number above the last is above all
+-- a number above the last one is above all of them
 pub place_last : (n : ℕ) (bs : List KeptBirths) → IsRising bs → ((d : KeptBirths) → 0 < length bs → (get_or bs (length bs - 1) d).number < n) → IsPlaceOf bs n (Err (length bs))
 place_last n bs rising last = (
   omega arith,

@@ -6,11 +6,11 @@ use Rattle.ledger.specs.declared.postings.Posting.TheVariants.{Opening}
 use Rattle.ledger.specs.Periods.{Periods}
 use Rattle.ledger.specs.Sums.{births_closed, births_of, count_of, entries_of, given_back_of, totals_over}
 
--- what a period begins with, of a number and a generation that live
+-- what a period begins with, for a number and generation that is alive
 abbrev pub opening_of : Periods → ℕ × ℕ → Posting
 opening_of ps a = Opening a.0 a.1 (count_of a.0 a.1 ps)
 
--- births and totals are kept, and a period begins in which each of these has what was left of it
+-- births and totals are kept, and the new period has an opening with what was left of each of these
 pub record Closes (old : Periods) (alive : List (ℕ × ℕ)) (new : Periods) : Type 0 where
   pub births : (n : ℕ) → births_closed n new.births ≡ births_of n old
   pub births_once : AllPairs (λ (b c : KeptBirths). b.number ≢ c.number) new.births

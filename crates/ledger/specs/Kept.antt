@@ -1,4 +1,4 @@
--- What always holds of a ledger.
+-- The invariants of a ledger.
 use Rattle.std.specs.Prelude.{ℕ, ◌≡◌, ◌+◌, ◌≤◌, All, Vec, sum_by, true, vec_len, vec_capacity}
 use Rattle.std.specs.declared.alloc.Global.{Global}
 use Rattle.ledger.specs.declared.births.KeptBirths.{KeptBirths}
@@ -9,14 +9,15 @@ use Rattle.ledger.specs.Periods.{Periods}
 use Rattle.ledger.specs.Shares.{Fits}
 use Rattle.ledger.specs.Sums.{IsCarriedOver, IsNeverNegative, is_opening, totals_over}
 
--- there is the room, within the limit: for postings, for births, and for the births that the end of the period keeps
+-- there is that much room, within the limit: for postings, for births, and for the births that the end of the period
+-- keeps
 pub record HasRoom (postings : Vec Posting Global) (closed births : Vec KeptBirths Global) (limit room places : ℕ) : Type 0 where
   pub within : vec_len postings + room ≤ limit
   pub fits : vec_len postings + room ≤ vec_capacity postings
   pub spares : vec_len births + places ≤ vec_capacity births
   pub keeps : vec_len births + places ≤ vec_capacity closed
 
--- births and totals are in step with the postings
+-- births and totals agree with the postings
 pub record IsLedger (periods : Periods) (postings : Vec Posting Global) (closed births : Vec KeptBirths Global) (totals : Totals) (limit room places : ℕ) : Type 0 where
   pub never_negative : IsNeverNegative periods
   pub carried : IsCarriedOver periods
@@ -27,7 +28,7 @@ pub record IsLedger (periods : Periods) (postings : Vec Posting Global) (closed 
   pub small : Fits (totals_over periods)
   pub roomy : HasRoom postings closed births limit room places
 
--- a period begins: all births are kept, and it has nothing but openings
+-- a period begins: all births are kept, and its postings are all openings
 pub record IsNextPeriod (periods : Periods) (opened : Vec Posting Global) (closed births : Vec KeptBirths Global) (limit room places : ℕ) : Type 0 where
   pub openings : All (λ (p : Posting). is_opening p ≡ true) periods.last
   pub rising : IsRising births.items

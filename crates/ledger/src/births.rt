@@ -1,4 +1,4 @@
-//! How often each number was born, beside the postings: a list by rising numbers.
+//! How often each number was born, apart from the postings: a list sorted by number.
 
 ghost use Rattle.std.specs.Prelude.{◌≡◌, ◌<◌, ◌≤◌, ◌+◌, ◌^◌, ℕ, AllPairs, IfSome, IsOk, OnOk, length, nat_eq, sum_by, vec_capacity, vec_len, if◌then◌else◌};
 ghost use Rattle.std.specs.List.{HoldsAt};
@@ -11,14 +11,14 @@ ghost use Rattle.ledger.specs.Sums.{births_closed, totals_by};
 use crate::postings::Posting;
 use std::alloc::AllocError;
 
-/// How often a number was born, ever or in the periods that are closed.
+/// How often a number was born, either ever or in the closed periods.
 #[derive(Clone, Copy, Debug, PartialEq, Eq)]
 pub struct KeptBirths {
     pub number: u64,
     pub count: u64,
 }
 
-/// The place that the number has if all from the first to it were born.
+/// The index of the number if all numbers from the first one up to it were born.
 fn place_in_run(births: &[KeptBirths], number: u64) -> Option<usize>
     ensures within { IfSome result (λ i. i < length births.now) }
     ensures here { IfSome result (HoldsAt (λ (b : Kept). b.number ≡ number) births.now) }
@@ -32,23 +32,24 @@ fn place_in_run(births: &[KeptBirths], number: u64) -> Option<usize>
     }
 }
 
-/// Where the births of the number are, or else where they belong. Numbers are mostly first born one after another, and then no search
-/// is made.
+/// The index of the number, or else the index at which to insert it.
 fn place_of(births: &[KeptBirths], number: u64) -> Result<usize, usize>
     requires { IsRising births.now }
     ensures { IsPlaceOf births.now number result }
 {
+    // The table gives the least free number, so a number that was never born comes after the last one.
     match births.last() {
         Some(last) if number <= last.number => {}
         _ => return Err(births.len()),
     }
+    // For the same reason the numbers are mostly without gaps, and then no search is needed.
     match place_in_run(births, number) {
         Some(place) => Ok(place),
         None => search(births, number),
     }
 }
 
-/// The same by a search.
+/// The same by binary search.
 fn search(births: &[KeptBirths], number: u64) -> Result<usize, usize>
     requires { IsRising births.now }
     ensures { IsPlaceOf births.now number result }
@@ -67,7 +68,7 @@ pub(crate) fn births_of(births: &[KeptBirths], number: u64) -> u64
     }
 }
 
-/// One birth more of the number. It takes no memory.
+/// Counts one more birth of the number. It does not allocate.
 fn raise(births: &mut Vec<KeptBirths>, number: u64)
     requires rising { IsRising births.old.items }
     requires few { births_closed number births.old.items + 1 < 2 ^ 64 }
@@ -87,7 +88,7 @@ fn raise(births: &mut Vec<KeptBirths>, number: u64)
     }
 }
 
-/// Keeps the births in step with one posting more. It takes no memory.
+/// Counts the posting if it is a birth. It does not allocate.
 pub(crate) fn tally(births: &mut Vec<KeptBirths>, posting: Posting)
     requires rising { IsRising births.old.items }
     requires few { (n : ℕ) → births_closed n births.old.items + (totals_by posting).born < 2 ^ 64 }
@@ -107,7 +108,8 @@ pub(crate) fn tally(births: &mut Vec<KeptBirths>, posting: Posting)
     }
 }
 
-/// Makes room for the births of so many numbers more, and for all numbers where the end of a period keeps them.
+/// Makes room for the births of `more` further numbers, here and in the list where the end of a period keeps all
+/// births.
 pub(crate) fn make_places(
     births: &mut Vec<KeptBirths>,
     kept: &mut Vec<KeptBirths>,
@@ -126,7 +128,7 @@ pub(crate) fn make_places(
     kept.reserve(all.saturating_sub(kept.len()))
 }
 
-/// Keeps the births of each number in the place of those that were kept. It takes no memory.
+/// Replaces the kept births by these. It does not allocate.
 pub(crate) fn keep_births(kept: &mut Vec<KeptBirths>, births: &[KeptBirths])
     requires room { length births.now ≤ vec_capacity kept.old }
     ensures kept { kept.new.items ≡ births.now }

@@ -1,5 +1,5 @@
-//! The end of a period: what was left of each number becomes what the next period begins with. It takes no memory, since the
-//! postings of the next period take the places of those of the last.
+//! The end of a period: what is left of each number is what the next period begins with. It cannot fail, since it does
+//! not allocate: the next period's postings are stored where those of the last one were.
 
 ghost use Rattle.std.specs.Prelude.{◌≡◌, ◌≢◌, ◌+◌, ◌<◌, ◌≤◌, [], AllPairs, length, ℕ, sum_by};
 ghost use Rattle.ledger.specs.declared.births.KeptBirths.{KeptBirths as Kept};
@@ -14,17 +14,18 @@ use crate::shares::Totals;
 use std::alloc::Global;
 use std::marker::Model;
 
-/// A ledger whose last period is closed, and the next one as it begins. Contracts see it as a ledger that has only this one to come.
+/// A ledger whose last period is closed, while the next one begins. Contracts see it as a ledger whose last period is
+/// the next one.
 #[derive(Drop)]
 pub struct NextPeriod {
     alloc: Global,
     /// What the period begins with, so far.
     opened: Vec<Posting>,
-    /// How often each number was born in the periods that are closed.
+    /// How often each number was born in the closed periods.
     closed_births: Vec<KeptBirths>,
-    /// The same, by number.
+    /// How often each number was ever born.
     births: Vec<KeptBirths>,
-    /// What was posted in them.
+    /// The totals of the closed periods.
     closed: Totals,
     limit: usize,
     room: usize,
@@ -44,7 +45,7 @@ impl Model for NextPeriod {
 }
 
 impl NextPeriod {
-    /// So many entries of the number were left when the period began.
+    /// Records that `count` entries of the number were left when the period began.
     pub fn open(&mut self, number: u64, generation: u64, count: u64)
         requires { 0 < self.old.room }
         ensures made { self.new.made ≡ posted self.old.made (posting.Opening number generation count) }
@@ -60,7 +61,7 @@ impl NextPeriod {
         });
     }
 
-    /// The ledger, once the period has all that was left.
+    /// The ledger, once the period has everything that was left.
     pub fn begin(self) -> Ledger
         requires left { self.made.totals.backs + self.made.totals.forgotten + sum_by carried_by self.made.last ≡ self.made.totals.entries }
         requires entered { self.made.totals.born ≤ self.made.totals.entries }
@@ -99,21 +100,21 @@ impl Ledger {
         self.postings.len()
     }
 
-    /// What was posted in the periods that are closed.
+    /// The totals of the closed periods.
     pub fn closed(&self) -> Totals
         ensures { result ≡ self.now.made.totals }
     {
         self.closed
     }
 
-    /// How often each number was born in them.
+    /// How often each number was born in the closed periods.
     pub fn closed_births(&self) -> &[KeptBirths]
         ensures { result.now ≡ self.now.made.births }
     {
         &self.closed_births
     }
 
-    /// What was ever posted.
+    /// The totals of all postings ever made.
     pub fn totals(&self) -> Totals
         ensures totals { result ≡ totals_over self.now.made }
         ensures fits { Fits (totals_over self.now.made) }
@@ -121,8 +122,8 @@ impl Ledger {
         self.totals
     }
 
-    /// Closes the last period: births and totals are kept, and the next one has nothing yet. All room that there was for
-    /// postings is its own.
+    /// Closes the last period: births and totals are kept. The next period is empty, and all the room for postings is
+    /// now its own.
     pub fn close(self) -> NextPeriod
         ensures births { (n : ℕ) → births_closed n result.made.births ≡ births_of n self.made }
         ensures births_once { AllPairs (λ (b c : Kept). b.number ≢ c.number) result.made.births }
@@ -148,6 +149,8 @@ impl Ledger {
         keep_births(&mut closed_births, &births);
         NextPeriod {
             alloc,
+            // Each living node has a birth or an opening in the last period, so the next period's openings fit in this
+            // buffer.
             opened: postings,
             closed_births,
             births,

@@ -22,7 +22,7 @@ fn words_of(rt: &HostRuntime) -> io::Result<Vec<String>> {
     Ok(words)
 }
 
-/// The kernel's device, where a character device stands on standard input.
+/// The kernel's device, if a character device is open as standard input.
 fn device_of(rt: &HostRuntime) -> Option<Device<DeviceRequests, DeviceReplies>> {
     let standing = fs::metadata(rt, "/proc/self/fd/0").ok()?;
     if !standing.file_type().is_char_device() {

@@ -10,7 +10,7 @@ text_reads None none text (Some t) is empty read = cc
 text_reads (Some s) none text None is empty read = cc
 text_reads (Some s) none text (Some t) is empty read = cc
 
--- whether something was got
+-- whether there is a value
 pub is_told : (got : Option (Bor Text)) (known : Option Text) → option_map (λ (s : Bor Text). s.now) got ≡ known → is_some got ≡ is_some known
 is_told None known is = ap is_some is
 is_told (Some s) known is = ap is_some is

@@ -18,11 +18,11 @@ use Rattle.terms.specs.declared.limits.Counts.TheVariants.{Bounded, Free}
 
 -- ---- what may be written
 
--- an option that takes a text and must be there
+-- a required option that takes a text
 abbrev pub text_rule : Text → Rule
 text_rule id = record (new_rule id) { long = Some id; action = Some Set; value_names = 1; required = true }
 
--- an option that takes a number, and has a default
+-- an option that takes a number and has a default
 abbrev pub number_rule : Text → (least most : ℕ) → (default : Text) → Rule
 number_rule id least most default = record (new_rule id) {
   long = Some id;
@@ -32,15 +32,15 @@ number_rule id least most default = record (new_rule id) {
   defaults = default ∷ [];
 }
 
--- a user or a group, which nobody need say
+-- a user or a group, which is optional
 abbrev pub user : Text → Rule
 user id = record (new_rule id) { long = Some id; action = Some Set; value_names = 1; parser = Some (Signed (pos 0) (pos 4294967295)) }
 
--- an option that takes a word, and has a default
+-- an option that takes a word and has a default
 abbrev pub word_rule : Text → (default : Text) → Rule
 word_rule id default = record (new_rule id) { long = Some id; action = Some Set; value_names = 1; defaults = default ∷ [] }
 
--- whose attributes are told
+-- whose attributes are reported
 abbrev pub attributes_rule : (default : Text) → Rule
 attributes_rule default = word_rule (codes "attributes") default
 
@@ -52,15 +52,15 @@ flag_rule id = record (new_rule id) { long = Some id; action = Some SetTrue }
 abbrev pub single_rule : Rule
 single_rule = record (flag_rule (codes "single")) { short = Some 115 }
 
--- told how many postings a period of the ledger may have, too
+-- with an option for how many postings a period of the ledger may have
 abbrev pub bounded : App → App
 bounded app = with_rule app (number_rule (codes "postings") 1 4294967295 (codes "1048576"))
 
--- told how many nodes, open files and requests there may be, too
+-- with options for how many nodes, open files and requests there may be
 abbrev pub limited : (nodes files : Text) → App → App
 limited nodes files app = with_rule (with_rule (with_rule app (number_rule (codes "nodes") 2 16777216 nodes)) (number_rule (codes "files") 1 1048576 files)) (number_rule (codes "requests") 1 65536 (codes "64"))
 
--- told what bounds the lookup counts, too
+-- with an option for what bounds the lookup counts
 abbrev pub counted : (how : Text) → App → App
 counted how app = with_rule app (word_rule (codes "counts") how)
 
@@ -68,11 +68,11 @@ counted how app = with_rule app (word_rule (codes "counts") how)
 abbrev pub hex_app : App
 hex_app = bounded (with_rule (new_app (codes "hex")) (flag_rule (codes "sample")))
 
--- told whose attributes are told, and a user and a group, too
+-- with options for whose attributes are reported, and for a user and a group
 abbrev pub owned : (attributes : Text) → App → App
 owned attributes app = with_rule (with_rule (with_rule app (attributes_rule attributes)) (user (codes "uid"))) (user (codes "gid"))
 
--- told all that a session is served by, too, where this is taken if nothing is said of it
+-- with options for all settings of a session, and these defaults
 abbrev pub served : (attributes nodes files counts : Text) → App → App
 served attributes nodes files counts app = bounded (counted counts (limited nodes files (owned attributes app)))
 
@@ -80,14 +80,14 @@ served attributes nodes files counts app = bounded (counted counts (limited node
 abbrev pub served_any : App → App
 served_any = served (codes "fixed") (codes "65536") (codes "4096") (codes "bounded")
 
--- for a kernel, which heeds owners and modes, and gives lookups back late
+-- for a kernel, which respects owners and modes, and forgets lookups late
 abbrev pub served_kernel : App → App
 served_kernel = served (codes "host") (codes "1048576") (codes "65536") (codes "free")
 
 abbrev pub pipe_app : App
 pipe_app = served_any (with_rule (new_app (codes "pipe")) (text_rule (codes "root")))
 
--- told how many threads work on requests, too
+-- with options for how many threads work on requests
 abbrev pub staffed : App → App
 staffed app = with_rule (with_rule app (number_rule (codes "workers") 1 4 (codes "2"))) single_rule
 
@@ -97,22 +97,22 @@ serve_app = served_any (staffed (with_rule (with_rule (new_app (codes "serve")) 
 abbrev pub device_app : App
 device_app = served_kernel (staffed (with_rule (new_app (codes "device")) (text_rule (codes "root"))))
 
--- the program, whose version can be asked for, without its subcommands
+-- the program with an option for its version, and without its subcommands
 abbrev pub bare_app : App
 bare_app = record (new_app (codes "mirrord")) {
   top = record (new_app (codes "mirrord")).top { has_version = true; subcommand_required = true; arg_required_else_help = true };
 }
 
--- with those that serve a folder to a client who comes over a stream
+-- with the subcommands that serve a folder to a client over a stream
 abbrev pub stream_app : App
 stream_app = with_subcommand (with_subcommand bare_app serve_app.top) pipe_app.top
 
 abbrev pub mirrord_app : App
 mirrord_app = with_subcommand (with_subcommand stream_app device_app.top) hex_app.top
 
--- ---- what it asks for
+-- ---- what a command line asks for
 
--- what an option reads as: its text; empty where there is none
+-- the value of an option: its text, or empty if there is none
 abbrev pub TextReads : Option Text → Text → Type 0
 TextReads None text = text ≡ []
 TextReads (Some t) text = text ≡ t
@@ -120,11 +120,11 @@ TextReads (Some t) text = text ≡ t
 abbrev pub IsText : Text → List Row → Text → Type 0
 IsText id rows = TextReads (first_of id rows)
 
--- a text that spells a number of so many bits
+-- a text that spells a number of that many bits
 abbrev pub IsSpelt : (bits : ℕ) → Text → Type 0
 IsSpelt bits text = IsNumeral 10 (without_leading_plus text) × (digits_value 10 (without_leading_plus text) < 2 ^ bits)
 
--- what a text reads as where a number is asked for: the one that it spells; 0 where it spells none
+-- the value of an option that takes a number: the number that its text spells, or 0 if it spells none
 pub record NumberReads (bits : ℕ) (text : Text) (n : ℕ) : Type 0 where
   pub spelt : IsSpelt bits text → n ≡ digits_value 10 (without_leading_plus text)
   pub none : (IsSpelt bits text → ⊥) → n ≡ 0
@@ -132,7 +132,7 @@ pub record NumberReads (bits : ℕ) (text : Text) (n : ℕ) : Type 0 where
 abbrev pub IsNumber : (bits : ℕ) → Text → List Row → ℕ → Type 0
 IsNumber bits id rows n = (text : Text) × IsText id rows text × NumberReads bits text n
 
--- what a flag reads as
+-- the value of a flag
 abbrev pub FlagReads : Option Text → Bool → Type 0
 FlagReads None flag = flag ≡ false
 FlagReads (Some text) flag = (text ≡ codes "true" → flag ≡ true) × (text ≡ codes "false" → flag ≡ false)
@@ -153,27 +153,29 @@ pub record AreBounds (rows : List Row) (bounds : Bounds) : Type 0 where
   pub postings : IsNumber 32 (codes "postings") rows bounds.postings
   pub counts : AreCounts rows bounds.counts
 
--- whether an option was given that has no default
+-- whether an option without a default was given
 abbrev pub is_given : Text → List Row → Bool
 is_given id rows = is_some (first_of id rows)
 
--- whose attributes are told: fixed ones, of an owner, who is user 0 and group 0 where none is given; or those of the host, which have their owners
+-- whose attributes are reported: fixed ones with an owner, by default user 0 and group 0; or those of the host, which
+-- have their own owners
 abbrev pub AreSettings : List Row → Settings → Type 0
 AreSettings rows (Fixed uid gid) = IsText (codes "attributes") rows (codes "fixed") × IsNumber 32 (codes "uid") rows uid × IsNumber 32 (codes "gid") rows gid
 AreSettings rows Host = IsText (codes "attributes") rows (codes "host") × (is_given (codes "uid") rows ≡ false) × (is_given (codes "gid") rows ≡ false)
 
--- why nothing can be served so: attributes or counts are neither of their words, or an owner is given beside attributes of the host
+-- why nothing can be served with these options: attributes or counts are neither of their two words, or an owner is
+-- given with attributes of the host
 abbrev pub AreRefused : List Row → OptionsRefusal → Type 0
 AreRefused rows Attributes = (text : Text) × IsText (codes "attributes") rows text × (text ≢ codes "fixed") × (text ≢ codes "host")
 AreRefused rows refusals.Counts = (text : Text) × IsText (codes "counts") rows text × (text ≢ codes "bounded") × (text ≢ codes "free")
 AreRefused rows Owner = IsText (codes "attributes") rows (codes "host") × ((is_given (codes "uid") rows ≡ true) ⊎ (is_given (codes "gid") rows ≡ true))
 
--- what a session is served by
+-- the settings of a session
 pub record AreTerms (rows : List Row) (terms : Terms) : Type 0 where
   pub settings : AreSettings rows terms.settings
   pub bounds : AreBounds rows terms.bounds
 
--- what is asked for by the subcommand of that name, which was met with these rows
+-- what the subcommand with that name asks for, which was read with these rows
 abbrev pub IsAskedBy : Text → List Row → Options → Type 0
 IsAskedBy name rows (Serve root socket workers single terms) =
     (name ≡ codes "serve") × IsText (codes "root") rows root.now × IsText (codes "socket") rows socket.now

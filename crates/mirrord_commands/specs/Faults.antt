@@ -1,4 +1,4 @@
--- What a program ends with.
+-- The exit status and the line of a program.
 use Rattle.std.specs.Prelude.{ℕ, List, [], ◌∷◌, ◌++◌, codes}
 use Rattle.std.specs.Fmt.{decimal}
 use Rattle.mirrord_commands.specs.declared.faults.Fault.{Fault}
@@ -21,7 +21,7 @@ status_of (NoSocket path) = 4
 status_of NoDevice = 2
 status_of (Refused refusal) = 2
 
--- how it is worded
+-- its words
 abbrev pub fault_message : Fault → List ℕ
 fault_message (FrameLength len) = codes "frame length " ++ decimal len ++ codes " is not between 40 and 69632"
 fault_message (Line line) = codes "line " ++ decimal line ++ codes " is not hexadecimal"

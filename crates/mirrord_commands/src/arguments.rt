@@ -1,4 +1,4 @@
-//! The arguments of the subcommands, as clap is told of them.
+//! The arguments of the subcommands, as clap is given them.
 
 ghost use Rattle.std.specs.Prelude.{◌≡◌, codes, false, IfOk, pos};
 ghost use Rattle.clap.specs.Words.{app_of, rule_of};
@@ -35,10 +35,10 @@ const COUNTS: &str =
 const POSTINGS: &str =
     "How many entries of the ledger a period may have; the next begins where half of them are made";
 
-/// How many entries of the ledger a period may have if nothing else is said.
+/// How many postings a period of the ledger may have by default.
 pub const DEFAULT_POSTINGS: u32 = 1_048_576;
 
-/// An option whose value is text, and that must be there.
+/// A required option whose value is a text.
 pub(crate) fn text_option<'a>(
     alloc: Global,
     name: &'a str,
@@ -78,7 +78,7 @@ fn number_option<'a>(
         .help(help)
 }
 
-/// The option of a user or a group.
+/// The option for a user or a group.
 fn owner_option<'a>(alloc: Global, name: &'a str, help: &'a str) -> Arg<'a>
     ensures rule { rule_of result ≡ user name.entry.now }
     ensures local { result.global ≡ false }
@@ -111,7 +111,7 @@ fn word_option<'a>(
         .help(help)
 }
 
-/// The option that says whose attributes are told.
+/// The option that says whose attributes are reported.
 fn attributes_option<'a>(alloc: Global, default: &'a str) -> Arg<'a>
     ensures rule { rule_of result ≡ attributes_rule default.entry.now }
     ensures local { result.global ≡ false }
@@ -130,7 +130,7 @@ pub(crate) fn flag<'a>(alloc: Global, name: &'a str, help: &'a str) -> Arg<'a>
         .help(help)
 }
 
-/// The flag of one thread.
+/// The flag for one thread.
 fn single_flag<'a>(alloc: Global) -> Arg<'a>
     ensures rule { rule_of result ≡ single_rule }
     ensures local { result.global ≡ false }
@@ -138,7 +138,7 @@ fn single_flag<'a>(alloc: Global) -> Arg<'a>
     flag(alloc, "single", SINGLE).short('s')
 }
 
-/// A command that is also told how many postings a period of the ledger may have.
+/// The command, with an option for how many postings a period of the ledger may have.
 pub(crate) fn with_postings<'a>(
     alloc: Global,
     command: Command<'a>,
@@ -149,7 +149,7 @@ pub(crate) fn with_postings<'a>(
     command.arg(number_option(alloc, "postings", 1, u32::MAX, "1048576", POSTINGS))
 }
 
-/// A command that is also told how many nodes, open files and requests there may be.
+/// The command, with options for how many nodes, open files and requests there may be.
 fn with_limits<'a>(
     alloc: Global,
     nodes: &'a str,
@@ -165,7 +165,7 @@ fn with_limits<'a>(
         .arg(number_option(alloc, "requests", 1, 65_536, "64", REQUESTS))
 }
 
-/// A command that is also told what bounds the lookup counts.
+/// The command, with an option for what bounds the lookup counts.
 fn with_counts<'a>(
     alloc: Global,
     how: &'a str,
@@ -177,7 +177,7 @@ fn with_counts<'a>(
     command.arg(word_option(alloc, "counts", "HOW", how, COUNTS))
 }
 
-/// A command that is also told whose attributes are told, and a user and a group.
+/// The command, with options for whose attributes are reported, and for a user and a group.
 fn with_owner<'a>(
     alloc: Global,
     attributes: &'a str,
@@ -192,7 +192,7 @@ fn with_owner<'a>(
         .arg(owner_option(alloc, "gid", GID))
 }
 
-/// A command that is also told all that a session is served by. These are the defaults.
+/// The command, with options for all settings of a session, and these defaults.
 pub(crate) fn with_terms<'a>(
     alloc: Global,
     attributes: &'a str,
@@ -210,7 +210,7 @@ pub(crate) fn with_terms<'a>(
     with_postings(alloc, counted)
 }
 
-/// A command that is also told how many threads work on requests.
+/// The command, with options for how many threads work on requests.
 pub(crate) fn with_workers<'a>(
     alloc: Global,
     command: Command<'a>,

@@ -1,4 +1,4 @@
-//! The command line, as clap is told of it.
+//! The command line, as clap is given it.
 
 ghost use Rattle.std.specs.Prelude.{◌≡◌, false, IfOk};
 ghost use Rattle.clap.specs.Words.{app_of};
@@ -110,7 +110,7 @@ fn bare_command<'a>(alloc: Global) -> Command<'a>
         .arg_required_else_help(true)
 }
 
-/// The program with those subcommands that serve a folder to a client who comes over a stream.
+/// The program with the subcommands that serve a folder to a client over a stream.
 fn stream_command<'a>(alloc: Global) -> Result<Command<'a>, AllocError>
     ensures app { IfOk result (λ c. app_of c ≡ stream_app) }
     ensures local { IfOk result (λ c. (fields_of c).has_globals ≡ false) }

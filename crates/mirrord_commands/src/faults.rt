@@ -1,4 +1,4 @@
-//! Why a program ends with another status than 0, and its one line about it.
+//! Why a program ends with a status other than 0, and its one line about that.
 
 ghost use Rattle.std.specs.Prelude.{◌≡◌, ◌⊎◌, true};
 ghost use Rattle.std.specs.Io.KnownBytes.{Appends};
@@ -15,9 +15,9 @@ use std::{fmt, io};
 /// Why a session stopped before its input ended.
 #[derive(Clone, Copy, Debug, PartialEq, Eq)]
 pub enum Fault {
-    /// A frame begins with a length that no frame has.
+    /// A frame begins with a length that no frame may have.
     FrameLength { len: u32 },
-    /// A line of the input, counted from 1, is not pairs of hexadecimal digits alone.
+    /// This line of the input, counted from 1, does not consist of pairs of hexadecimal digits only.
     Line { line: u64 },
     /// A read or a write failed.
     Link,
@@ -32,15 +32,15 @@ pub enum Fault {
 /// Why a program failed.
 #[derive(Clone, Copy, Debug, PartialEq, Eq)]
 pub enum Failure<'a> {
-    /// Its session stopped, or memory was refused before it began.
+    /// Its session was stopped, or memory was refused before it began.
     Stopped(Fault),
-    /// What it was to serve is not a folder that can be opened.
+    /// What it should serve is not a folder that can be opened.
     NoFolder { root: &'a str },
-    /// No client can be waited for there.
+    /// It cannot wait for a client at this path.
     NoSocket { path: &'a str },
-    /// Standard input is to be the kernel's FUSE device, and is no character device.
+    /// Standard input should be the kernel's FUSE device, but is not a character device.
     NoDevice,
-    /// Its options cannot be.
+    /// Its options cannot be used.
     Refused(OptionsRefusal),
 }
 
@@ -61,7 +61,7 @@ impl<'a> Failure<'a> {
     }
 }
 
-// Both are written out, since a contract names what they write.
+// Both are written out, since a contract names what is written.
 impl Display for Fault {
     ghost use Rattle.std.specs.Prelude.{Some};
     ghost use Rattle.mirrord_commands.specs.Faults.{fault_message};
@@ -120,7 +120,7 @@ impl From<io::Error> for Fault {
     }
 }
 
-/// Writes a failure as one line. False says that the writer failed.
+/// Writes a failure as one line. False means that the writer failed.
 pub fn tell<F: Write>(faults: &mut F, failure: Failure<'_>) -> bool
     ensures { result ≡ true → Appends (F.contents faults.old) (F.contents faults.new) (line_of failure.entry) }
 {

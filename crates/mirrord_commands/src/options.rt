@@ -20,20 +20,20 @@ pub enum Options<'a> {
     Serve {
         /// The folder.
         root: &'a str,
-        /// Where the socket is made.
+        /// Where the socket is created.
         socket: &'a str,
         /// How many threads serve, from 1 to 4.
         workers: u8,
-        /// Whether one thread does all, whatever their number.
+        /// Whether one thread does everything, whatever the number of threads is.
         single: bool,
-        /// Whose attributes are told, and how far the table may grow.
+        /// Whose attributes are reported, and how far the table may grow.
         terms: Terms,
     },
     /// Serve a folder over standard input and output.
     Pipe {
         /// The folder.
         root: &'a str,
-        /// Whose attributes are told, and how far the table may grow.
+        /// Whose attributes are reported, and how far the table may grow.
         terms: Terms,
     },
     /// Serve a folder over the kernel's FUSE device.
@@ -42,9 +42,9 @@ pub enum Options<'a> {
         root: &'a str,
         /// How many threads serve, from 1 to 4.
         workers: u8,
-        /// Whether one thread does all, whatever their number.
+        /// Whether one thread does everything, whatever the number of threads is.
         single: bool,
-        /// Whose attributes are told, and how far the table may grow.
+        /// Whose attributes are reported, and how far the table may grow.
         terms: Terms,
     },
     /// Serve a tree in memory over hexadecimal lines.
@@ -54,7 +54,7 @@ pub enum Options<'a> {
         /// How many postings a period of the ledger may have.
         postings: u32,
     },
-    /// Nothing can be served so.
+    /// Nothing can be served with these options.
     Refused(OptionsRefusal),
 }
 
@@ -65,7 +65,7 @@ fn text_in<'a>(matches: &ArgMatches<'a>, name: &str) -> &'a str
     matches.get_str(name).unwrap_or("")
 }
 
-/// The number that a text spells.
+/// The number that a text spells, or 0 if it spells none. Of such texts clap lets only `-0` through.
 fn number_of(text: &str) -> u32
     ensures { NumberReads 32 text.now result }
 {
@@ -75,7 +75,7 @@ fn number_of(text: &str) -> u32
     }
 }
 
-/// The small number that a text spells.
+/// The same for a small number.
 fn small_number_of(text: &str) -> u8
     ensures { NumberReads 8 text.now result }
 {
@@ -136,14 +136,14 @@ fn bounds_in(matches: &ArgMatches<'_>) -> Result<Bounds, OptionsRefusal>
     })
 }
 
-/// Whether an option was given that has no default.
+/// Whether an option without a default was given.
 fn is_given(matches: &ArgMatches<'_>, name: &str) -> bool
     ensures { result ≡ is_given name.now (rows_of (found_of matches.now)) }
 {
     matches.get_str(name).is_some()
 }
 
-/// Whose attributes are told.
+/// Whose attributes are reported.
 fn settings_in(matches: &ArgMatches<'_>) -> Result<Settings, OptionsRefusal>
     ensures ok { IfOk result (AreSettings (rows_of (found_of matches.now))) }
     ensures err { IfErr result (AreRefused (rows_of (found_of matches.now))) }
@@ -154,6 +154,8 @@ fn settings_in(matches: &ArgMatches<'_>) -> Result<Settings, OptionsRefusal>
         let gid = number_in(matches, "gid");
         return Ok(Settings::Fixed { uid, gid });
     }
+    // Clap could restrict the option to some words, but not let its value exclude other options. So both refusals are
+    // made here.
     if attributes != "host" {
         return Err(OptionsRefusal::Attributes);
     }
@@ -163,7 +165,7 @@ fn settings_in(matches: &ArgMatches<'_>) -> Result<Settings, OptionsRefusal>
     Ok(Settings::Host)
 }
 
-/// What a session is served by.
+/// The settings of a session.
 fn terms_in(matches: &ArgMatches<'_>) -> Result<Terms, OptionsRefusal>
     ensures ok { IfOk result (AreTerms (rows_of (found_of matches.now))) }
     ensures err { IfErr result (AreRefused (rows_of (found_of matches.now))) }
@@ -236,7 +238,7 @@ fn asked_by<'a>(name: &str, matches: &ArgMatches<'a>) -> Options<'a>
     }
 }
 
-/// What a command line that was read asks for.
+/// What a command line asks for, after clap has read it.
 fn asked<'a>(matches: &ArgMatches<'a>) -> Options<'a>
     ensures { IsAsked (subcommand_rows_of matches.now) result }
 {
@@ -249,7 +251,7 @@ fn asked<'a>(matches: &ArgMatches<'a>) -> Options<'a>
     }
 }
 
-/// Reads a command line, whose first word names the program. Help and the version are answered as errors of clap's, too.
+/// Reads a command line, whose first word names the program. Help and the version are returned as clap's errors, too.
 pub fn read_options<'a, S: AsStr>(alloc: Global, words: &'a [S]) -> Result<Options<'a>, Error>
     ensures asked { IfOk result (IsAsked (subcommand_of mirrord_app (map S.text words.entry.now))) }
     ensures fails { FailsBy (fault_of mirrord_app (map S.text words.entry.now)) result }

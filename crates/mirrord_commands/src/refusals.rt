@@ -1,4 +1,4 @@
-//! Why options that can be read are refused all the same.
+//! Why options that clap has read are still refused.
 
 use std::fmt;
 use std::fmt::Display;
@@ -10,7 +10,7 @@ pub enum OptionsRefusal {
     Attributes,
     /// `--counts` is neither `bounded` nor `free`.
     Counts,
-    /// An owner is given, and attributes are to be the host's, which tell the owners.
+    /// An owner is given, although the attributes are to be the host's, which include the owners.
     Owner,
 }
 

@@ -23,7 +23,7 @@ use Rattle.mirrord_programs.specs.declared.folders.Serving.{Serving}
 
 -- ---- the program `serve`
 
--- by one thread, or by threads
+-- with one thread, or with several
 abbrev pub ServesBy : Serving → Terms → Result SessionEnd Unserved → Type 0
 ServesBy threads terms ended = (threads.single ≡ true → ServesSocket terms ended) × (threads.single ≡ false → ServesWorkers terms threads.workers ended)
 
@@ -35,7 +35,7 @@ pub record RunsServe (root path : Bor Text) (threads : Serving) (terms : Terms) 
 
 -- ---- the program `device`
 
--- what the kernel's device may tell of a read, and of a write of a reply
+-- what the kernel's device may answer to a read, and to a write of a reply
 pub record Kernel (R W : Type 0) : Type 1 where
   pub gives : R → Got → R → Type 0
   pub takes : W → List ℕ → Result ℕ DeviceFault → W → Type 0
@@ -43,7 +43,7 @@ pub record Kernel (R W : Type 0) : Type 1 where
 abbrev pub kernel : {R W : Type 0} → (R → Got → R → Type 0) → (W → List ℕ → Result ℕ DeviceFault → W → Type 0) → Kernel R W
 kernel gives takes = record { gives = gives; takes = takes }
 
--- by one thread, or by threads
+-- with one thread, or with several
 abbrev pub ServesKernel : {R W : Type 0} → Kernel R W → Serving → Terms → Device R W → Result SessionEnd Unserved → Type 0
 ServesKernel by threads terms device ended =
     (threads.single ≡ true → ServesDevice by.gives by.takes terms device.requests device.replies ended)
@@ -56,15 +56,15 @@ pub record IsDeviceServed {R W : Type 0} (by : Kernel R W) (root : Bor Text) (th
   pub path : Bor Text
   pub ends : IsEnded ended root path faults faults' status told
 
--- The same where the device is what stands on standard input; else it is refused.
+-- The same if the device is open as standard input; otherwise the program refuses.
 abbrev pub RunsDevice : {R W : Type 0} → Kernel R W → (root : Bor Text) → Serving → Terms → Option (Device R W) → (faults faults' : Option (List ℕ)) → (status : ℕ) → (told : Bool) → Type 0
 RunsDevice by root threads terms (Some device) faults faults' status told = IsDeviceServed by root threads terms device faults faults' status told
 RunsDevice by root threads terms None faults faults' status told = (status ≡ status_of NoDevice) × Tells (Some NoDevice) told faults faults'
 
 -- ---- from the command line
 
--- why clap refuses a command line: one of the kinds that it has for those words, or want of memory. Words that it takes are
--- refused for want of memory alone.
+-- why clap refuses a command line: one of the kinds of error that it has for those words, or out of memory. Words that
+-- it accepts are refused only for lack of memory.
 pub record IsRefused (words : List Text) (kind : ErrorKind) : Type 0 where
   pub among : (kind ≡ OutOfMemory) ⊎ IsAmong kind (refusals_of mirrord_app words)
   pub memory : takes mirrord_app words ≡ true → kind ≡ OutOfMemory
@@ -79,7 +79,7 @@ RunsAsked by (options.Pipe root terms) device input output output' faults faults
 RunsAsked by (options.Refused refusal) device input output output' faults faults' status told = IsRefusedBy refusal output output' faults faults' status told
 RunsAsked by (options.Hex sampled postings) device input output output' faults faults' status told = RunsSeeded sampled postings input output output' faults faults' status told
 
--- The program does what the words ask for where clap has nothing against them. Else, or where memory is refused, it ends as a
+-- The program does what the words ask for if clap accepts them. Otherwise, or if memory is refused, it ends as a
 -- refusal does.
 abbrev pub RunsWords : {R W : Type 0} → Kernel R W → List Text → Option (Device R W) → (input output output' faults faults' : Option (List ℕ)) → (status : ℕ) → (told : Bool) → Type 0
 RunsWords by words device input output output' faults faults' status told =

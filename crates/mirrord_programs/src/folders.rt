@@ -1,4 +1,4 @@
-//! The programs `serve` and `device`, but for their command lines.
+//! The programs `serve` and `device`, without their command lines.
 
 ghost use Rattle.std.specs.Prelude.{◌≡◌};
 ghost use Rattle.mirrord_programs.specs.Runs.{RunsDevice, RunsServe, kernel};
@@ -22,7 +22,7 @@ use std::time::Clock;
 pub struct Serving {
     /// How many, from 1 to 4.
     pub workers: u8,
-    /// Whether one thread does all, whatever their number.
+    /// Whether one thread does everything, whatever the number of threads is.
     pub single: bool,
 }
 
@@ -34,9 +34,9 @@ pub struct FolderServed<'a> {
     pub terms: Terms,
 }
 
-/// Serves a folder to the first client that comes to a new socket at `path`: the program `serve` but for its command
-/// line. It reads nothing from the input and writes nothing to the output, which is handed back. The folder becomes the current one of
-/// the process, and stays it.
+/// Serves a folder to the first client that connects to a new socket at `path`: the program `serve` without its command
+/// line. It reads nothing from the input and writes nothing to the output, which is returned. The folder becomes the
+/// current directory of the process, and remains so.
 pub fn serve_run<
     H: Threads
         + Wait
@@ -86,12 +86,12 @@ pub fn serve_run<
     }
 }
 
-/// The name of where the kernel's device stands.
+/// The name of the kernel's device.
 const STANDARD_INPUT: &str = "standard input";
 
-/// Serves a folder to the kernel over its device, which stands on standard input, until nothing is mounted there any more: the program
-/// `device` but for its command line. It writes nothing to the output, which is handed back. The folder becomes the current one of the
-/// process, and stays it.
+/// Serves a folder to the kernel over its device, which is open as standard input, until it is unmounted: the program
+/// `device` without its command line. It writes nothing to the output, which is returned. The folder becomes the
+/// current directory of the process, and remains so.
 pub fn device_run<
     H: Threads
         + Wait

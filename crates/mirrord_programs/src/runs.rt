@@ -1,4 +1,4 @@
-//! Whole runs of the programs, but for the system around them.
+//! Whole runs of the programs, without the system around them.
 
 ghost use Rattle.std.specs.Prelude.{map};
 ghost use Rattle.mirrord_programs.specs.Runs.{RunsAsked, RunsWords, kernel};
@@ -87,8 +87,8 @@ fn run_asked<
     }
 }
 
-/// The program `mirrord`, whose first word names it. The `host` is the same system as `rt`, by its name: what workers are sent may rest on
-/// no bound of a type parameter.
+/// The program `mirrord`, whose first word names it. `host` is the same system as `rt`, as a named type: what is sent
+/// to workers may not depend on a bound of a type parameter.
 pub fn run<
     H: Threads
         + Wait

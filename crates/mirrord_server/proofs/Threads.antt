@@ -1,4 +1,4 @@
--- A folder that is served by threads.
+-- A folder that is served by several threads.
 use Rattle.std.proofs.Common.{ℕ, ◌+◌, ◌<◌, ◌≡◌, ◌⊎◌, List, Option, Some, None, IfNone, IfSome, inl, inr, option_map, replicate, subst}
 use Rattle.std.specs.List.{range_with_len}
 use Rattle.crossbeam_channel.specs.Claims.{view}
@@ -16,7 +16,7 @@ use Rattle.terms.specs.Limits.{limits_of}
 use Rattle.mirrord_server.specs.Workers.{ServesLinks, BothEnds}
 use Rattle.terms.specs.declared.terms.Terms.{Terms}
 
--- by what was made of the folders
+-- what was done with the folders
 pub served_by : {I O : Type 0} (by : BothEnds I O) (terms : Terms) (workers : ℕ) (folders : List ℕ) (input : I) (output : O) (account : Option Account) (over : SessionEnd)
     → folders ≡ replicate workers 0
     → (over ≡ end.NoWorkers → (workers ≡ 0) ⊎ (4 < workers))

@@ -1,4 +1,4 @@
-//! A folder of the system, served over the kernel's FUSE device by threads.
+//! Serving a folder of the system over the kernel's FUSE device with several threads.
 
 ghost use Rattle.mirrord_server.specs.Workers.{ServesDeviceBy};
 
@@ -10,8 +10,9 @@ use std::random::RandomSource;
 use std::sync::Wait;
 use std::thread::Threads;
 
-/// Serves the folder at `root` as `serve_device` does, but by so many threads, from 1 to 4, each of which reads, works on requests or writes
-/// replies, whatever is due, and has a folder of its own on the same root. The folders are of the `host`, which is the same system.
+/// Serves the folder at `root` as `serve_device` does, but with that many threads, from 1 to 4. Each of them reads,
+/// works on requests or writes replies, whichever is due, and has a folder of its own on the same root. The folders use
+/// `host`, which is the same system.
 pub fn serve_device_by<
     H: Threads + Wait + RandomSource + AllocGlobal + Clone + Send + Sync + Drop + 'static,
     R: ReadRequest + Send + Drop + 'static,

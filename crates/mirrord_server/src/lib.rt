@@ -1,4 +1,4 @@
-//! A folder of the system that several threads serve, over a Unix socket or the kernel's FUSE device.
+//! Serving a folder of the system with several threads, over a Unix socket or the kernel's FUSE device.
 #![tactic(auto)]
 
 mod device;

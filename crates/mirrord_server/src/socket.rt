@@ -1,4 +1,4 @@
-//! A folder of the system, served over a Unix socket by threads.
+//! Serving a folder of the system over a Unix socket with several threads.
 
 ghost use Rattle.std.specs.Prelude.{◌≡◌, replicate, vec_len};
 ghost use Rattle.mirrord_server.specs.Workers.{ServesWorkers};
@@ -18,7 +18,7 @@ use std::sync::Wait;
 use std::thread::Threads;
 use table::Seeds;
 
-/// Waits for one client: what is heard from it, and where it gets replies.
+/// Waits for one client, and returns both ends of its connection.
 fn meet<R: AllocGlobal>(
     rt: &R,
     place: &SocketFile,
@@ -27,13 +27,14 @@ fn meet<R: AllocGlobal>(
     let Ok(heard) = output.try_clone() else {
         return Err(Unserved::NoSocket);
     };
+    // Threads do not poll the socket: one could write to it while another has set it to non-blocking mode.
     let Ok(input) = BufReader::with_capacity(rt.alloc(), RECEIVED, heard) else {
         return Err(Unserved::Memory);
     };
     Ok((input, output))
 }
 
-/// Serves the first client that comes.
+/// Serves the first client that connects.
 fn serve_first<H: Threads + Wait + AllocGlobal + Clone + Send + Sync + Drop + 'static>(
     rt: &H,
     folders: Vec<HostFolder>,
@@ -50,7 +51,7 @@ fn serve_first<H: Threads + Wait + AllocGlobal + Clone + Send + Sync + Drop + 's
     Ok(serve_workers(rt, folders, seeds, terms, link_in, link_out))
 }
 
-/// Serves the first client that connects to a new socket at `path`, whose file is removed then.
+/// Serves the first client that connects to a new socket at `path`, whose file is removed afterwards.
 fn serve_at<
     H: Threads
         + Wait
@@ -78,8 +79,9 @@ fn serve_at<
     ended
 }
 
-/// Serves the folder at `root` as `serve_socket` does, but by so many threads, from 1 to 4, each of which reads, works on requests or writes
-/// replies, whatever is due, and has a folder of its own on the same root. The folders are of the `host`, which is the same system.
+/// Serves the folder at `root` as `serve_socket` does, but with that many threads, from 1 to 4. Each of them reads,
+/// works on requests or writes replies, whichever is due, and has a folder of its own on the same root. The folders use
+/// `host`, which is the same system.
 pub fn serve_socket_by<
     H: Threads
         + Wait
@@ -102,6 +104,7 @@ pub fn serve_socket_by<
 ) -> Result<SessionEnd, Unserved>
     ensures { ServesWorkers terms workers result }
 {
+    // The folders are opened before the socket is made, so that a bad folder leaves no file.
     let folders = open_folders(host, root, workers)?;
     let seeds = new_seeds(rt)?;
     serve_at(rt, folders, seeds, terms, path)

@@ -1,4 +1,4 @@
-//! A folder of the system, served by threads.
+//! Serving a folder of the system with several threads.
 
 ghost use Rattle.std.specs.Prelude.{◌≡◌, IfOk, replicate, vec_len};
 ghost use Rattle.mirrord_server.specs.Workers.{ServesLinks, both_ends};
@@ -12,8 +12,8 @@ use std::sync::Wait;
 use std::thread::Threads;
 use table::Seeds;
 
-/// A folder that a thread of its own may use. A bound of a type parameter would be one of the thread that makes it, so the
-/// runtime is named.
+/// A folder that another thread may use. It names the runtime, since what is sent to a thread may not depend on a bound
+/// of a type parameter.
 pub(crate) type HostFolder = Folder<System<HostRuntime>>;
 
 /// A folder for each worker, all on the same root.
@@ -34,7 +34,7 @@ pub(crate) fn open_folders(
     Ok(folders)
 }
 
-/// Serves by as many workers as there are folders a client who is heard from one link and gets the replies by another.
+/// Serves a client that sends over one link and gets its replies over another, with one worker for each folder.
 pub(crate) fn serve_workers<
     H: Threads + Wait + AllocGlobal + Clone + Send + Sync + Drop + 'static,
     I: LinkIn + Send + Drop + 'static,

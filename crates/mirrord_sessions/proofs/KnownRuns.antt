@@ -1,4 +1,4 @@
--- A session whose calls are those of a known tree.
+-- A session whose calls are calls on a known tree.
 use Rattle.std.proofs.Common.{◌++◌, inl, inr}
 use Rattle.backing.specs.Calls.{Asked}
 use Rattle.backing.specs.Device.{Counted}

@@ -1,4 +1,4 @@
--- What the puts of the sample names make of a tree.
+-- The tree after the sample names were added.
 use Rattle.std.proofs.Common.{ℕ, ◌≡◌, Bool, true, false, if◌then◌else◌, List, [], ◌∷◌, codes, Option, Some, None, Ok, inl, inr, refl, ap, ◌∙◌}
 use Rattle.paths.specs.Prefixes.{Names}
 use Rattle.backing.specs.Calls.{AskMake, AskMakeDir, AskWrite, Works, memory_limit}
@@ -11,7 +11,7 @@ use Rattle.backing.specs.declared.entries.Item.{Item}
 use Rattle.backing.specs.declared.entries.Item.TheVariants.{Folder, File}
 use Rattle.mirrord_sessions.specs.Samples.{bare, samples}
 
--- the same stands at each path
+-- the same is at each path
 abbrev Same : Tree → Tree → Type 0
 Same s t = (path : Names) → s path ≡ t path
 
@@ -54,7 +54,7 @@ put_a old new (mid, made, (n, wrote_last)) path =
 put_e : (old new : Tree) (p : Names) → PutsFile old p [] (Ok tt) new → new ≡ with_item old p (File [])
 put_e old new p (mid, made, (n, wrote_last)) = wrote_none mid new p n wrote_last ∙ made_file old mid p made
 
--- the three puts, one after another
+-- adding the three names, one after another
 pub put_all : (start one two three : Tree) → Same start bare
     → PutsFile start (codes "a" ∷ []) (codes "abc") (Ok tt) one
     → PutsDir one (codes "d" ∷ []) (Ok tt) two
@@ -69,7 +69,7 @@ put_all start one two three none first second third path =
     let in_two : Same two (with_item (with_item bare p abc) q Folder) = λ at. ap (λ (t : Tree). t at) (made_dir one two q second) ∙ same_with one (with_item bare p abc) q Folder in_one at in
     ap (λ (t : Tree). t path) (put_e two three r third) ∙ same_with two (with_item (with_item bare p abc) q Folder) r (File []) in_two path
 
--- A tree without entries is bare.
+-- A tree without entries has only its root.
 pub empty_is_bare : (path : Names) → tree_of [] path ≡ bare path
 empty_is_bare [] = refl
 empty_is_bare (name ∷ below) = refl

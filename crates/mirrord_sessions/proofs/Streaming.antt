@@ -16,7 +16,7 @@ stream_served terms old over new (inl served) =
     inl (record { served = served; heard = heard_first old new client.steps client.passes; part = wrote.0; written = wrote.1 })
 stream_served terms old over new (inr none) = inr none
 
--- from its beginning to the writer that is handed back
+-- from its beginning to the writer that is returned
 pub folder_served : (terms : Terms) (input output output' : Option (List ℕ)) (folder : ℕ) (first last : Streaming) (over : SessionEnd)
     → first ≡ unused input output → folder ≡ 0 → ServesLink terms (traffic Receives Sends) Tells folder first over last → output' ≡ last.output
     → IsFolderServed terms input output over output'

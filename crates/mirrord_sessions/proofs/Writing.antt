@@ -1,4 +1,4 @@
--- What a link of hexadecimal lines wrote over a run of events.
+-- What a link of hexadecimal lines wrote during a run of events.
 use Rattle.std.proofs.Common.{ℕ, ◌≡◌, Bool, List, [], ◌∷◌, ◌++◌, take, Option, refl, sym, subst, ap, ◌∙◌, append_assoc, arith, inl, inr}
 use Rattle.std.proofs.KnownBytes.{Appends-nil, Appends-trans}
 use Rattle.std.specs.Io.KnownBytes.{Appends}
@@ -24,13 +24,13 @@ heard_output old new (Piece bytes) r = ap (λ (l : Hexing). l.output) r.2.1.rest
 heard_output old new Ended r = ap (λ (l : Hexing). l.output) r.2
 heard_output old new Broke r = ap (λ (l : Hexing). l.output) r.1.2
 
--- a reply more before the others
+-- one more reply before the others
 taken_first : (old mid new : Option (List ℕ)) (frame : List ℕ) (events : List Event) (n : ℕ) → Appends old mid (line frame) → Appends mid new (lines_in events ++ take n (broken_line events))
     → Appends old new ((line frame ++ lines_in events) ++ take n (broken_line events))
 taken_first old mid new frame events n first rest =
     subst (λ (xs : List ℕ). Appends old new xs) (sym (append_assoc (line frame) (lines_in events) (take n (broken_line events)))) (Appends-trans old mid new (line frame) (lines_in events ++ take n (broken_line events)) first rest)
 
--- The writer was given the replies that were taken, and the first bytes of one that broke the link.
+-- The writer was given the replies that were taken, and some first part of one that broke the link.
 abbrev pub WritesSome : Hexing → List Event → Hexing → Type 0
 WritesSome old events new = (n : ℕ) × Appends old.output new.output (lines_in events ++ take n (broken_line events))
 

@@ -5,11 +5,11 @@ use Rattle.engine.specs.declared.links.Sent.{Sent}
 use Rattle.engine.specs.declared.links.Sent.TheVariants as sent
 use Rattle.mirrord_sessions.specs.Lines.{Hexing, HasPiece, Receives, Sends}
 
--- no failure, no count
+-- without failures the count does not change
 none_more : (n : ℕ) → n ≡ counted n 0
 none_more n = omega arith
 
--- a line that is read or kept changes neither output nor counts
+-- reading or keeping a line changes neither the output nor the counts
 pub same_failures : (old mid : Hexing) (kept : List ℕ) → old.kept ≡ kept → HasPiece old mid → mid.failures ≡ old.failures
 same_failures old mid [] none has = ap (λ (l : Hexing). l.failures) (has.line none).others
 same_failures old mid (x ∷ xs) some has = ap (λ (l : Hexing). l.failures) (has.kept (rw some (omega arith)))

@@ -1,4 +1,4 @@
--- How programs end.
+-- The ends of programs.
 use Rattle.std.specs.Prelude.{ℕ, ◌≡◌, Bool, true, List, Option, Some, None, Result, Ok, Err, unwrap_or}
 use Rattle.std.specs.Borrow.{Bor}
 use Rattle.std.specs.Io.KnownBytes.{Appends, Keeps}
@@ -12,7 +12,7 @@ use Rattle.mirrord_commands.specs.declared.faults.Fault.TheVariants.{FrameLength
 use Rattle.mirrord_commands.specs.declared.faults.Failure.{Failure}
 use Rattle.mirrord_commands.specs.declared.faults.Failure.TheVariants.{Stopped, NoFolder, NoSocket}
 
--- the failure that a session ended with, where its link tells the cause if it broke
+-- the failure with which a session ended, and the link's cause if the link broke
 abbrev pub failure_of : SessionEnd → Option Fault → Option Failure
 failure_of (end.Closed rest) cause = None
 failure_of end.Destroyed cause = None
@@ -34,7 +34,7 @@ abbrev pub exit_of : Option Failure → ℕ
 exit_of None = 0
 exit_of (Some failure) = status_of failure
 
--- Nothing is told of no failure, else one line, if the writer took it.
+-- Without a failure nothing is written, and otherwise one line, if the writer takes it.
 abbrev pub Tells : Option Failure → (told : Bool) → Option (List ℕ) → Option (List ℕ) → Type 0
 Tells None told old new = (told ≡ true) × Keeps old new
 Tells (Some failure) told old new = told ≡ true → Appends old new (line_of failure)

@@ -15,19 +15,20 @@ use Rattle.mirrord_sessions.specs.Sessions.{IsServed, ServesLink}
 use Rattle.mirrord_sessions.specs.declared.folder.Unserved.{Unserved}
 use Rattle.mirrord_sessions.specs.declared.folder.Unserved.TheVariants.{NoSocket}
 
--- A folder that no call was made of is served over a stream. What is heard are the first bytes of its reader. Its writer is given the
--- replies that were taken, one after another, then the first bytes of one that broke the link, if one did, and nothing else.
+-- A folder on which no call was made is served over a stream. What is received are the first bytes of its reader. Its
+-- writer is given the replies that were taken, one after another, then some first part of one that broke the link, if
+-- one did, and nothing else.
 pub record IsStreamServed (terms : Terms) (old : Streaming) (over : SessionEnd) (new : Streaming) : Type 0 where
   pub served : IsServed terms (traffic Receives Sends) Tells 0 old over new
   pub heard : Consumes old.input new.input (heard_of served.run.client.steps)
   pub part : ℕ
   pub written : Appends old.output new.output (taken_in (events_of served.run.client.steps) ++ take part (broken_in (events_of served.run.client.steps)))
 
--- the same, unless there is no memory for a table
+-- the same, unless memory for a table was refused
 abbrev pub ServesStream : Terms → Streaming → SessionEnd → Streaming → Type 0
 ServesStream terms old over new = IsStreamServed terms old over new ⊎ ((over ≡ end.Memory) × (new ≡ old))
 
--- by the bytes that the reader had left, and those that the writer held before and holds after it, where they are known
+-- in terms of the bytes that the reader had, and those that the writer has before and after, if they are known
 pub record IsFolderServed (terms : Terms) (input output : Option (List ℕ)) (over : SessionEnd) (output' : Option (List ℕ)) : Type 0 where
   pub last : Streaming
   pub serves : ServesStream terms (unused input output) over last
@@ -43,7 +44,8 @@ abbrev pub ServesSocket : Terms → Result SessionEnd Unserved → Type 0
 ServesSocket terms (Ok over) = (input output output' : Option (List ℕ)) × IsFolderServed terms input output over output'
 ServesSocket terms (Err why) = Unit {0}
 
--- A folder that no call was made of is served over the kernel's device, of which nothing was read before; or there was no session.
+-- A folder on which no call was made is served over the kernel's device, from which nothing was read before; or there
+-- was no session.
 abbrev pub ServesDevice : {R W : Type 0} → (R → Got → R → Type 0) → (W → List ℕ → Result ℕ DeviceFault → W → Type 0) → Terms → R → W → Result SessionEnd Unserved → Type 0
 ServesDevice {R = R} {W = W} gives takes terms requests replies (Ok over) =
     (last : OnDevice R W) × ServesLink terms (traffic (device.Receives gives) (device.Sends takes)) Tells 0 (device.unused requests replies) over last

@@ -1,4 +1,4 @@
--- Sessions from a tree that is known.
+-- Sessions on a directory with a known tree.
 use Rattle.std.specs.Prelude.{ℕ, ◌≡◌, ◌⊎◌, ◌++◌, Option}
 use Rattle.backing.specs.Calls.{Asked}
 use Rattle.backing.specs.Tree.{Tree}
@@ -20,11 +20,12 @@ pub record KnownCalls (C : Type 0) : Type 1 where
 abbrev pub known_calls : {C : Type 0} → (C → Asked → Answer → C → Type 0) → Option ℕ → (C → Tree) → (C → ℕ) → KnownCalls C
 known_calls gives limit tree faults = record { gives = gives; limit = limit; tree = tree; faults = faults }
 
--- All calls of a session are those of the tree from first to last, with the faults of its device as inputs; each is counted, and nothing else is.
+-- All calls of a session are calls on the tree, from the first to the last, with the failures of its device as inputs;
+-- each is counted, and nothing else is.
 pub record IsKnownServed {L C : Type 0} (terms : Terms) (link : Traffic L) (calls : KnownCalls C) (first : C) (old : L) (over : SessionEnd) (new : L) : Type 0 where
   pub served : IsServed terms link calls.gives first old over new
   pub known : KnownRun calls.limit calls.tree calls.faults first (made_of (turns_of served.run.client.steps) ++ served.run.removal.removals) served.left
 
--- the same, unless there is no memory for a table
+-- the same, unless memory for a table was refused
 abbrev pub ServesKnown : {L C : Type 0} → Terms → Traffic L → KnownCalls C → C → L → SessionEnd → L → Type 0
 ServesKnown terms link calls first old over new = IsKnownServed terms link calls first old over new ⊎ ((over ≡ end.Memory) × (new ≡ old))

@@ -14,12 +14,12 @@ use Rattle.mirrord_commands.specs.declared.faults.Fault.TheVariants as fault
 pub record Hexing : Type 0 where
   -- how many lines were read
   pub lines : ℕ
-  -- those bytes of the last one that are not handed out
+  -- those bytes of the last line that were not returned yet
   pub kept : List ℕ
-  -- the bytes that its reader has left, and those that its writer holds, where they are known
+  -- the bytes that its reader still has, and those that its writer has, if they are known
   pub input : Option (List ℕ)
   pub output : Option (List ℕ)
-  -- why it is broken
+  -- why the link is broken
   pub cause : Option Fault
   -- how many of its calls have failed
   pub failures : ℕ
@@ -30,24 +30,24 @@ unread input output = record { lines = 0; kept = []; input = input; output = out
 
 -- ---- reading
 
--- one line more was read, and the bytes that it spells are kept
+-- one more line was read, and the bytes that it spells are kept
 pub record ReadsLine (old new : Hexing) : Type 0 where
   pub counted : new.lines ≡ min (old.lines + 1) (2 ^ 64 - 1)
   pub spelt : IfSome old.input (λ xs. (xs ≢ []) × (decode_of (first_piece 10 xs) ≡ Ok new.kept))
   pub rest : DropsThrough old.input new.input 10
   pub others : new ≡ record old { lines = new.lines; kept = new.kept; input = new.input }
 
--- what is kept goes before the next line
+-- what is kept is returned before the next line is read
 pub record HasPiece (old new : Hexing) : Type 0 where
   pub kept : 0 < length old.kept → new ≡ old
   pub line : old.kept ≡ [] → ReadsLine old new
 
--- so many of the bytes kept are handed out
+-- that many of the kept bytes are returned
 pub record HandsOut (old : Hexing) (n : ℕ) (bytes : List ℕ) (new : Hexing) : Type 0 where
   pub prefix : bytes ≡ take n old.kept
   pub rest : new ≡ record old { kept = drop n old.kept }
 
--- Why reading broke: the next line is the one that is not hexadecimal; or no line was read, since the reader failed; or memory was
+-- Why reading failed: the next line is not hexadecimal; or no line was read, since the reader failed; or memory was
 -- refused.
 abbrev pub Explains : Hexing → Hexing → Fault → Type 0
 Explains old new (fault.FrameLength len) = ⊥
@@ -72,7 +72,7 @@ Receives old Broke new =
 abbrev pub line : List ℕ → List ℕ
 line frame = encode_lower frame ++ 10 ∷ []
 
--- a reply was not written whole: the writer failed, or memory was refused
+-- a reply was not written completely: the writer failed, or memory was refused
 abbrev pub IsOfWriting : Fault → Type 0
 IsOfWriting (fault.FrameLength len) = ⊥
 IsOfWriting (fault.Line n) = ⊥
@@ -81,7 +81,8 @@ IsOfWriting fault.Memory = Unit {0}
 IsOfWriting fault.Seed = ⊥
 IsOfWriting fault.Workers = ⊥
 
--- A reply that was taken is one line. Of one that broke the link the first bytes of its line may have been written, and nothing else.
+-- A reply that was taken is one line. Of one that broke the link some first part of its line may have been written, and
+-- nothing else.
 abbrev pub Sends : Hexing → List ℕ → Sent → Hexing → Type 0
 Sends old frame sent.Taken new = Appends old.output new.output (line frame) × (new ≡ record old { output = new.output })
 Sends old frame sent.Untaken new = ⊥
@@ -89,9 +90,9 @@ Sends old frame sent.Broken new =
     AppendsPart old.output new.output (line frame)
     × ((cause : Fault) × IsOfWriting cause × (new ≡ record old { output = new.output; cause = Some cause; failures = counted old.failures 1 }))
 
--- ---- all that was written
+-- ---- everything that was written
 
--- the replies that were taken, a line each
+-- the replies that were taken, one line each
 abbrev pub lines_in : List Event → List ℕ
 lines_in [] = []
 lines_in (In heard ∷ events) = lines_in events
@@ -99,7 +100,7 @@ lines_in (Out frame sent.Taken ∷ events) = line frame ++ lines_in events
 lines_in (Out frame sent.Untaken ∷ events) = lines_in events
 lines_in (Out frame sent.Broken ∷ events) = lines_in events
 
--- the line of the reply that broke the link; nothing where none did
+-- the line of the reply that broke the link, or nothing if none did
 abbrev pub broken_line : List Event → List ℕ
 broken_line [] = []
 broken_line (In heard ∷ events) = broken_line events

@@ -1,4 +1,4 @@
--- Runs of the programs `hex` and `pipe`, and of none.
+-- Runs of the programs `hex` and `pipe`, and of no program.
 use Rattle.std.specs.Prelude.{ℕ, ◌≡◌, ◌≢◌, ◌⊎◌, ◌++◌, Bool, List, take, Option, Some, Result}
 use Rattle.std.specs.Borrow.{Bor}
 use Rattle.std.specs.Io.KnownBytes.{Appends}
@@ -25,7 +25,7 @@ use Rattle.terms.specs.declared.limits.Counts.TheVariants.{Bounded}
 
 -- ---- the program `hex`
 
--- nobody owns what is mirrored
+-- the owner is user 0 and group 0
 abbrev pub unowned : (postings : ℕ) → Terms
 unowned postings = record { settings = Fixed 0 0; bounds = record { nodes = 65536; files = 4096; requests = 64; postings = postings; counts = Bounded } }
 
@@ -33,8 +33,8 @@ unowned postings = record { settings = Fixed 0 0; bounds = record { nodes = 6553
 abbrev pub failed_in : MemTree → ℕ
 failed_in m = m.failed
 
--- A link of hexadecimal lines is served from a new tree in memory. Its writer is given the replies that were taken, a line each,
--- then the first bytes of the line of one that broke it, if one did, and nothing else.
+-- A link of hexadecimal lines is served from a new tree in memory. Its writer is given the replies that were taken, one
+-- line each, then some first part of the line of one that broke it, if one did, and nothing else.
 pub record IsHexServed (sampled : Bool) (postings : ℕ) (old : Hexing) (over : SessionEnd) (new : Hexing) : Type 0 where
   pub tree : MemTree
   pub start : IsStart sampled tree
@@ -42,11 +42,11 @@ pub record IsHexServed (sampled : Bool) (postings : ℕ) (old : Hexing) (over : 
   pub part : ℕ
   pub written : Appends old.output new.output (lines_in (events_of known.served.run.client.steps) ++ take part (broken_line (events_of known.served.run.client.steps)))
 
--- the same, unless there is no memory for a tree or a table
+-- the same, unless memory for a tree or a table was refused
 abbrev pub ServesHex : Bool → (postings : ℕ) → Hexing → SessionEnd → Hexing → Type 0
 ServesHex sampled postings old over new = IsHexServed sampled postings old over new ⊎ ((over ≡ end.Memory) × (new ≡ old))
 
--- its status, and all that it writes
+-- its status, and everything that it writes
 pub record RunsHex (sampled : Bool) (postings : ℕ) (input output output' faults faults' : Option (List ℕ)) (status : ℕ) (told : Bool) : Type 0 where
   pub over : SessionEnd
   pub last : Hexing
@@ -55,7 +55,7 @@ pub record RunsHex (sampled : Bool) (postings : ℕ) (input output output' fault
   pub status_is : status ≡ exit_of (failure_of over last.cause)
   pub tells : Tells (failure_of over last.cause) told faults faults'
 
--- the same, unless the system gives no seeds: then nothing is read and nothing written
+-- the same, unless the system gives no seeds: then nothing is read and nothing is written
 pub record HasNoSeed (output output' faults faults' : Option (List ℕ)) (status : ℕ) (told : Bool) : Type 0 where
   pub output_is : output' ≡ output
   pub status_is : status ≡ 4
@@ -67,7 +67,7 @@ RunsSeeded sampled postings input output output' faults faults' status told =
 
 -- ---- the program `pipe`
 
--- how serving a folder is ended: the status, and what is told
+-- how serving a folder ends: the status, and what is written
 abbrev pub IsEnded : Result SessionEnd Unserved → (root path : Bor Text) → (faults faults' : Option (List ℕ)) → (status : ℕ) → (told : Bool) → Type 0
 IsEnded ended root path faults faults' status told =
     (status ≡ exit_of (failure_after ended root path)) × Tells (failure_after ended root path) told faults faults'
@@ -81,15 +81,15 @@ pub record RunsPipe (root : Bor Text) (terms : Terms) (input output output' faul
 
 -- ---- no program
 
--- How a command line ends that is not served: for want of memory by its status and its line, and nothing is written to the output; for
--- help and the version by their status, and nothing is written to standard error; for a fault in it by its status, and nothing is
--- written to the output.
+-- How the program ends if clap does not accept the command line: if memory was refused, with the status and line for
+-- that, and nothing is written to the output; for help and the version with their status, and nothing is written to
+-- standard error; for an error in it with its status, and nothing is written to the output.
 pub record IsUnserved (kind : ErrorKind) (output output' faults faults' : Option (List ℕ)) (status : ℕ) (told : Bool) : Type 0 where
   pub memory : kind ≡ OutOfMemory → (status ≡ 4) × (output' ≡ output) × Tells (Some (Stopped Memory)) told faults faults'
   pub help : (kind ≡ DisplayHelp) ⊎ (kind ≡ DisplayVersion) → (status ≡ 0) × (faults' ≡ faults)
   pub fault : kind ≢ OutOfMemory → kind ≢ DisplayHelp → kind ≢ DisplayVersion → (status ≡ 2) × (output' ≡ output)
 
--- options that cannot be: nothing is read and nothing written to the output
+-- options that cannot be used: nothing is read, and nothing is written to the output
 pub record IsRefusedBy (refusal : OptionsRefusal) (output output' faults faults' : Option (List ℕ)) (status : ℕ) (told : Bool) : Type 0 where
   pub status_is : status ≡ 2
   pub output_is : output' ≡ output

@@ -18,7 +18,7 @@ use Rattle.terms.specs.Limits.{limits_of}
 abbrev pub folder_limits : FolderLimits
 folder_limits = record { folders = 4096; names = 1048576 }
 
--- a session over a new table, with open folders of these limits
+-- a session with a new table, and open folders with these limits
 pub record IsServed {L C : Type 0} (terms : Terms) (link : Traffic L) (gives : C → Asked → Answer → C → Type 0) (tree : C) (old : L) (over : SessionEnd) (new : L) : Type 0 where
   pub world : World
   pub opened : world ≡ opened_world (limits_of terms.bounds)
@@ -28,9 +28,9 @@ pub record IsServed {L C : Type 0} (terms : Terms) (link : Traffic L) (gives : C
   pub left : C
   pub dirs_left : Bor FolderLimits
   pub run : IsSessionRun worlds terms.settings link (does gives Shares) (around old (record { calls = tree; dirs = dirs }) world) (around new (record { calls = left; dirs = dirs_left }) last) over
-  -- after each call on the table, each node with a hidden mark stands under a reserved name
+  -- after each call on the table, each node with a hidden mark is at a reserved name
   pub hidden : IsSessionRun hiding terms.settings link (does gives Shares) (around old (record { calls = tree; dirs = dirs }) world) (around new (record { calls = left; dirs = dirs_left }) last) over
 
--- the same, unless there is no memory for a table
+-- the same, unless memory for a table was refused
 abbrev pub ServesLink : {L C : Type 0} → Terms → Traffic L → (C → Asked → Answer → C → Type 0) → C → L → SessionEnd → L → Type 0
 ServesLink terms link gives tree old over new = IsServed terms link gives tree old over new ⊎ ((over ≡ end.Memory) × (new ≡ old))

@@ -1,4 +1,4 @@
-//! A folder of the system, served over the kernel's FUSE device by one thread.
+//! Serving a folder of the system over the kernel's FUSE device with one thread.
 
 ghost use Rattle.mirrord_sessions.specs.Folders.{ServesDevice};
 
@@ -13,7 +13,7 @@ use std::sync::Wait;
 use std::time::Clock;
 use terms::Terms;
 
-/// Serves the folder at `root` to the kernel whose requests and replies go over `device`, until nothing is mounted there any more.
+/// Serves the folder at `root` to the kernel over `device`, until it is unmounted.
 pub fn serve_device<
     H: Wait + RandomSource + Files<File = File> + Clock + AllocGlobal + Clone + Drop,
     R: ReadRequest + Drop,

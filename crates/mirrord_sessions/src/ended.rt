@@ -1,4 +1,4 @@
-//! How programs end.
+//! The ends of programs.
 
 ghost use Rattle.std.specs.Prelude.{◌≡◌};
 ghost use Rattle.mirrord_sessions.specs.Ends.{exit_of, failure_after, failure_of, Tells};
@@ -8,18 +8,18 @@ use engine::SessionEnd;
 use mirrord_commands::{Failure, Fault, tell};
 use std::io::Write;
 
-/// What a run leaves behind.
+/// The result of a run.
 #[derive(Drop)]
 pub struct ProgramEnd<O: Drop> {
     /// The exit status.
     pub status: u8,
-    /// Whether standard error took its line, if there was one.
+    /// Whether its line could be written to standard error, if there was one.
     pub told: bool,
-    /// The writer of the output, handed back.
+    /// The writer of the output, returned.
     pub output: O,
 }
 
-/// The failure that a session ended with, where `cause` tells why its link broke.
+/// The failure with which a session ended; `cause` says why its link broke.
 pub fn failure_of<'a>(end: SessionEnd, cause: Option<Fault>) -> Option<Failure<'a>>
     ensures { result ≡ failure_of end cause }
 {
@@ -32,7 +32,7 @@ pub fn failure_of<'a>(end: SessionEnd, cause: Option<Fault>) -> Option<Failure<'
     }
 }
 
-/// The failure with which serving the folder `root` ended, to a client who was to come by `path`.
+/// The failure with which serving the folder `root` ended, for a client that was expected at `path`.
 pub fn failure_after<'a>(
     ended: Result<SessionEnd, Unserved>,
     root: &'a str,
@@ -49,7 +49,7 @@ pub fn failure_after<'a>(
     }
 }
 
-/// The exit status after a failure, or after none.
+/// The exit status after a failure, or without one.
 pub fn status_after(failure: Option<Failure<'_>>) -> u8
     ensures { result ≡ exit_of failure.entry }
 {
@@ -59,7 +59,7 @@ pub fn status_after(failure: Option<Failure<'_>>) -> u8
     }
 }
 
-/// Writes one line about a failure, if there was one. False says that the writer failed.
+/// Writes one line about a failure, if there was one. False means that the writer failed.
 pub fn tell_any<F: Write>(faults: &mut F, failure: Option<Failure<'_>>) -> bool
     ensures { Tells failure.entry result (F.contents faults.old) (F.contents faults.new) }
 {

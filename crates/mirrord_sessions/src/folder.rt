@@ -1,4 +1,4 @@
-//! A folder of the system, served over a stream.
+//! Serving a folder of the system over a stream.
 
 ghost use Rattle.std.specs.Prelude.{◌≡◌, ◌≢◌, IfErr, IfOk};
 ghost use Rattle.mirrord_sessions.specs.Folders.{IsFolderServed, ServesFolder};
@@ -18,29 +18,29 @@ use std::time::Clock;
 use table::Seeds;
 use terms::Terms;
 
-/// Why nothing is served.
+/// Why nothing was served.
 #[derive(Clone, Copy, Debug, PartialEq, Eq)]
 pub enum Unserved {
-    /// No folder can be opened there.
+    /// The folder cannot be opened.
     NoFolder,
     /// The system gives no random bytes.
     NoSeed,
-    /// Nobody can be waited for there.
+    /// It is not possible to wait for a client at the path.
     NoSocket,
     /// Memory was refused.
     Memory,
 }
 
-/// What serving over a stream leaves behind.
+/// The result of serving over a stream.
 #[derive(Drop)]
 pub struct StreamEnd<O: Drop> {
     /// How the session ended, or why there was none.
     pub ended: Result<SessionEnd, Unserved>,
-    /// The writer of the replies, handed back.
+    /// The writer of the replies, returned.
     pub output: O,
 }
 
-/// Why a folder was not opened.
+/// Why a folder could not be opened.
 fn unopened(error: io::Error) -> Unserved
     ensures { result ≢ NoSocket }
 {
@@ -50,7 +50,7 @@ fn unopened(error: io::Error) -> Unserved
     }
 }
 
-/// Opens the folder that is served.
+/// Opens the folder to be served.
 pub fn open_folder<H: Files<File = File> + Clock + AllocGlobal + Clone + Drop>(
     rt: &H,
     root: &str,
@@ -67,7 +67,7 @@ pub fn open_folder<H: Files<File = File> + Clock + AllocGlobal + Clone + Drop>(
     }
 }
 
-/// Seeds of a new table.
+/// Seeds for a new table.
 pub fn new_seeds<H: RandomSource>(rt: &H) -> Result<Seeds, Unserved>
     ensures { IfErr result (λ why. why ≢ NoSocket) }
 {
@@ -77,7 +77,7 @@ pub fn new_seeds<H: RandomSource>(rt: &H) -> Result<Seeds, Unserved>
     }
 }
 
-/// The folder that is served, and seeds of a table for it.
+/// The folder to be served, and seeds for its table.
 pub(crate) fn open_seeded<
     H: RandomSource + Files<File = File> + Clock + AllocGlobal + Clone + Drop,
 >(rt: &H, root: &str) -> Result<(Folder<System<H>>, Seeds), Unserved>
@@ -89,7 +89,7 @@ pub(crate) fn open_seeded<
     Ok((folder, seeds))
 }
 
-/// Serves a folder that no call was made of.
+/// Serves a folder on which no call was made yet.
 pub(crate) fn serve_opened<
     H: Wait + Files<File = File> + Clock + AllocGlobal + Clone + Drop,
     I: Read + Drop,
@@ -110,7 +110,7 @@ pub(crate) fn serve_opened<
     (end, link.into_writer())
 }
 
-/// Serves the folder at `root` to the client who writes `input` and reads `output`, until its session ends.
+/// Serves the folder at `root` to the client that writes `input` and reads `output`, until its session ends.
 pub fn serve_folder<
     H: Wait + RandomSource + Files<File = File> + Clock + AllocGlobal + Clone + Drop,
     I: Read + Drop,

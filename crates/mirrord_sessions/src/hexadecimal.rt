@@ -18,7 +18,7 @@ use std::io;
 use std::io::{BufRead, Write};
 use std::marker::Model;
 
-/// Makes `line` the next line of the reader, without its line break. False says that the input is at its end.
+/// Reads the next line into `line`, without its line break. False means the end of the input.
 fn read_line<I: BufRead>(reader: &mut I, line: &mut Vec<u8>) -> io::Result<bool>
     ensures line { IfOk result (λ more. more ≡ true
         → IfSome (I.remaining reader.old) (λ xs. (xs ≢ []) × (line.new.items ≡ first_piece 10 xs))) }
@@ -33,7 +33,7 @@ fn read_line<I: BufRead>(reader: &mut I, line: &mut Vec<u8>) -> io::Result<bool>
     Ok(read > 0)
 }
 
-/// Makes `piece` the bytes that a line spells, or empty.
+/// Puts the bytes that a line spells into `piece`; if it spells none, `piece` is empty.
 fn spell(line: &[u8], piece: &mut Vec<u8>) -> Result<(), FromHexError>
     ensures ok { OnOk result (decode_of line.now ≡ Ok piece.new.items) }
     ensures err { IfErr result (λ e. (e ≡ OutOfMemory) ⊎ (decode_of line.now ≡ Err e)) }
@@ -43,7 +43,7 @@ fn spell(line: &[u8], piece: &mut Vec<u8>) -> Result<(), FromHexError>
     hex::decode_to_slice(line, piece.as_mut_slice())
 }
 
-/// Makes `line` the digits of the frame, in lower case, and a line break.
+/// Writes the digits of the frame into `line`, in lower case, with a line break.
 fn write_digits(frame: &[u8], line: &mut Vec<u8>) -> Result<(), AllocError>
     ensures { OnOk result (line.new.items ≡ encode_lower frame.now ++ 10 ∷ []) }
 {
@@ -54,17 +54,17 @@ fn write_digits(frame: &[u8], line: &mut Vec<u8>) -> Result<(), AllocError>
     Ok(())
 }
 
-/// A link whose client writes and reads hexadecimal digits. Each line of the input spells a piece of the stream, an
-/// empty line an empty one. Each reply is a line.
+/// A link whose client writes and reads hexadecimal digits. Each line of the input spells a piece of the stream, and an
+/// empty line an empty piece. Each reply is a line.
 #[derive(Drop)]
 pub struct HexLink<I: BufRead, O: Write> {
     reader: I,
     writer: O,
     /// How many lines were read.
     lines: u64,
-    /// The line that was read, or is written.
+    /// The line that was read, or that is written.
     line: Vec<u8>,
-    /// What the last line spells. The bytes before `start` are handed out.
+    /// The bytes of the last line. Those before `start` were returned already.
     piece: Vec<u8>,
     start: usize,
     cause: Option<Fault>,
@@ -91,7 +91,7 @@ impl<I: BufRead, O: Write> Model for HexLink<I, O> {
 }
 
 impl<I: BufRead, O: Write> HexLink<I, O> {
-    /// A link on which no line was read or written.
+    /// A link on which no line was read or written yet.
     pub fn new(alloc: Global, reader: I, writer: O) -> HexLink<I, O>
         ensures { result ≡ unread (I.remaining reader) (O.contents writer) }
     {
@@ -107,14 +107,14 @@ impl<I: BufRead, O: Write> HexLink<I, O> {
         }
     }
 
-    /// Why it is broken.
+    /// Why the link is broken.
     pub fn cause(&self) -> Option<Fault>
         ensures { result ≡ self.now.cause }
     {
         self.cause
     }
 
-    // One failure more.
+    // Counts one more failure.
     fn fail(&mut self, fault: Fault)
         ensures { self.new ≡ record self.old { cause = Some fault; failures = counted self.old.failures 1 } }
     {
@@ -122,7 +122,7 @@ impl<I: BufRead, O: Write> HexLink<I, O> {
         self.failures = self.failures.saturating_add(1);
     }
 
-    // Keeps the bytes of the next line. False says that there is none.
+    // Keeps the bytes of the next line. False means that there is none.
     fn read_piece(&mut self) -> Result<bool, Fault>
         requires { self.old.kept ≡ [] }
         ensures more { IfOk result (λ more. more ≡ true → ReadsLine self.old self.new) }
@@ -148,7 +148,7 @@ impl<I: BufRead, O: Write> HexLink<I, O> {
         }
     }
 
-    // Moves as much of what is kept as there is room for.
+    // Copies as many of the kept bytes as fit.
     fn hand_out(&mut self, room: &mut [u8]) -> usize
         ensures within { result ≤ length room.new }
         ensures bytes { HandsOut self.old result (take result room.new) self.new }
@@ -173,7 +173,7 @@ impl<I: BufRead, O: Write> HexLink<I, O> {
 }
 
 impl<I: BufRead + Drop, O: Write> HexLink<I, O> {
-    /// Hands the writer back.
+    /// Returns the writer.
     pub fn into_writer(self) -> O
         ensures { O.contents result ≡ self.output }
     {

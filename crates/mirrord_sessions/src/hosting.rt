@@ -15,7 +15,7 @@ use std::sync::Wait;
 use table::{Seeds, Table};
 use terms::Terms;
 
-/// Serves a tree and these open folders over a link with a table of one share.
+/// Serves a directory and these open folders over a link, with a table that has one share.
 fn serve_new<H: Wait, T: Ledgers, L: Link, C: Calls + Drop>(
     rt: &H,
     alloc: Global,
@@ -71,7 +71,7 @@ fn serve_link<H: Wait, T: Ledgers, L: Link, C: Calls + Drop>(
     }
 }
 
-/// Serves a tree to one client, until its session ends. It may wait for the link.
+/// Serves a directory to one client until its session ends. It may wait for the link.
 pub fn serve_alone<H: Wait, L: Link, C: Calls + Drop>(
     rt: &H,
     alloc: Global,
@@ -85,7 +85,7 @@ pub fn serve_alone<H: Wait, L: Link, C: Calls + Drop>(
     serve_link::<H, Brand, L, C>(rt, alloc, Blanks::new(1), seeds, tree, link, terms)
 }
 
-/// The same from a tree that tells itself.
+/// The same for a directory whose tree is known.
 pub fn serve_known<H: Wait, L: Link, C: KnownTree + Drop>(
     rt: &H,
     alloc: Global,

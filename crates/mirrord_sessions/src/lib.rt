@@ -1,5 +1,5 @@
-//! Sessions that one thread serves: with a table of their own, from a folder of the system, over a stream or a Unix socket. With them the
-//! programs over a reader and a writer, `pipe` and `hex`, and how each program ends.
+//! Sessions on one thread: with a table of their own, from a folder of the system, over a stream or a Unix socket. Also
+//! the programs over a reader and a writer, `pipe` and `hex`, and how each program ends.
 #![tactic(auto)]
 
 mod device;

@@ -8,7 +8,7 @@ use clap::error::ErrorKind;
 use mirrord_commands::{Failure, Fault, OptionsRefusal, tell};
 use std::io::Write;
 
-/// Says what clap has to say: help and the version go to the output, and a fault to standard error.
+/// Writes clap's message: help and the version go to the output, and an error to standard error.
 pub fn explain<O: Write + Drop, F: Write>(
     error: &clap::Error,
     mut output: O,
@@ -40,7 +40,7 @@ pub fn explain<O: Write + Drop, F: Write>(
     }
 }
 
-/// Says why options cannot be.
+/// Writes why the options cannot be used.
 pub fn refuse<O: Write + Drop, F: Write>(
     refusal: OptionsRefusal,
     output: O,

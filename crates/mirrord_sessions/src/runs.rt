@@ -1,4 +1,4 @@
-//! The programs `hex` and `pipe`, but for their command lines.
+//! The programs `hex` and `pipe`, without their command lines.
 
 ghost use Rattle.std.specs.Prelude.{◌≡◌};
 ghost use Rattle.mirrord_sessions.specs.Runs.{RunsHex, RunsPipe, RunsSeeded, ServesHex, unowned};
@@ -20,7 +20,7 @@ use std::time::Clock;
 use table::Seeds;
 use terms::{Bounds, Settings, Terms};
 
-/// What a tree in memory is served by: nobody owns what is mirrored.
+/// The settings for a tree in memory: its owner is user 0 and group 0.
 fn unowned(postings: u32) -> Terms
     ensures { result ≡ unowned postings }
 {
@@ -50,8 +50,8 @@ fn serve_new<H: Wait, I: BufRead + Drop, O: Write + Drop>(
     serve_known(rt, alloc, seeds, tree, link, unowned(postings))
 }
 
-/// Serves a tree in memory over hexadecimal lines: the program `hex` but for its command line. A period of the ledger may have so many
-/// postings.
+/// Serves a tree in memory over hexadecimal lines: the program `hex` without its command line. A period of the ledger
+/// may have `postings` postings.
 pub fn hex_run<H: Wait, I: BufRead + Drop, O: Write + Drop, F: Write>(
     rt: &H,
     alloc: Global,
@@ -75,7 +75,7 @@ pub fn hex_run<H: Wait, I: BufRead + Drop, O: Write + Drop, F: Write>(
     }
 }
 
-/// The program `hex` but for its command line, with seeds of its own.
+/// The program `hex` without its command line, with seeds of its own.
 pub fn run_hex<H: Wait + RandomSource + AllocGlobal, I: BufRead + Drop, O: Write + Drop, F: Write>(
     rt: &H,
     sample: bool,
@@ -106,10 +106,11 @@ pub fn run_hex<H: Wait + RandomSource + AllocGlobal, I: BufRead + Drop, O: Write
     )
 }
 
-/// The name of what `pipe` reads.
+/// The name of the input of `pipe`.
 const STANDARD_INPUT: &str = "standard input";
 
-/// Serves the folder `root` to the client who writes `input` and reads `output`: the program `pipe` but for its command line.
+/// Serves the folder `root` to the client that writes `input` and reads `output`: the program `pipe` without its
+/// command line.
 pub fn pipe_run<
     H: Wait + RandomSource + Files<File = File> + Clock + AllocGlobal + Clone + Drop,
     I: Read + Drop,

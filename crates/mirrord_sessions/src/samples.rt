@@ -16,7 +16,7 @@ fn in_root(alloc: Global, name: &str) -> Result<Path, AllocError>
     Path::from_names(names)
 }
 
-/// A root, with the file `a` holding `abc`, the folder `d` and the empty file `e` in it if samples are asked for.
+/// A root, which if samples are asked for has the file `a` containing `abc`, the folder `d` and the empty file `e`.
 pub fn new_tree(alloc: Global, sample: bool) -> Result<MemTree, AllocError>
     ensures { IfOk result (λ tree. IsStart sample tree) }
 {
@@ -27,7 +27,7 @@ pub fn new_tree(alloc: Global, sample: bool) -> Result<MemTree, AllocError>
     let a = in_root(alloc, "a")?;
     let d = in_root(alloc, "d")?;
     let e = in_root(alloc, "e")?;
-    // Nothing stands there yet, so only memory can be refused.
+    // Nothing is at that path yet, so only memory can be refused.
     let Ok(()) = tree.put_file(&a, b"abc") else {
         return Err(AllocError);
     };

@@ -1,4 +1,4 @@
-//! A folder of the system, served over a Unix socket by one thread.
+//! Serving a folder of the system over a Unix socket with one thread.
 
 ghost use Rattle.std.specs.Prelude.{◌≡◌};
 ghost use Rattle.mirrord_sessions.specs.Folders.{ServesSocket};
@@ -19,7 +19,7 @@ use std::time::Clock;
 use table::Seeds;
 use terms::Terms;
 
-/// How many bytes one receive of the system takes at most.
+/// How many bytes one receive from the system takes at most.
 pub const RECEIVED: usize = 131_072;
 
 /// Serves the client at the other end of a socket.
@@ -38,12 +38,12 @@ fn serve_client<H: Wait + Files<File = File> + Clock + AllocGlobal + Clone + Dro
     };
     let output = Holding::new(rt.alloc(), stream);
     let (end, mut output) = serve_opened(rt, folder, seeds, terms, input, output);
-    // Only where more stood behind the DESTROY is anything left; the session is over, whatever becomes of it.
+    // Replies can be left only if more came after the DESTROY; the session is over, whatever becomes of them.
     let _ = output.flush();
     Ok(end)
 }
 
-/// Serves the first client that comes.
+/// Serves the first client that connects.
 fn serve_first<H: Wait + Files<File = File> + Clock + AllocGlobal + Clone + Drop>(
     rt: &H,
     folder: Folder<System<H>>,
@@ -58,7 +58,7 @@ fn serve_first<H: Wait + Files<File = File> + Clock + AllocGlobal + Clone + Drop
     serve_client(rt, folder, seeds, terms, &stream)
 }
 
-/// Serves the first client that connects to a new socket at `path`, whose file is removed then.
+/// Serves the first client that connects to a new socket at `path`, whose file is removed afterwards.
 fn serve_at<H: Wait + Net + Files<File = File> + Clock + AllocGlobal + Clone + Drop>(
     rt: &H,
     folder: Folder<System<H>>,
@@ -75,13 +75,14 @@ fn serve_at<H: Wait + Net + Files<File = File> + Clock + AllocGlobal + Clone + D
     ended
 }
 
-/// Serves the folder at `root` to the first client that connects to a new socket at `path`, until its session ends. The file of
-/// the socket is then removed, unless something else stands there by then.
+/// Serves the folder at `root` to the first client that connects to a new socket at `path`, until its session ends. The
+/// socket's file is removed afterwards, unless something else has taken its place.
 pub fn serve_socket<
     H: Wait + Net + RandomSource + Files<File = File> + Clock + AllocGlobal + Clone + Drop,
 >(rt: &H, root: &str, path: &str, terms: Terms) -> Result<SessionEnd, Unserved>
     ensures { ServesSocket terms result }
 {
+    // The folder is opened before the socket is made, so that a bad folder leaves no file.
     let (folder, seeds) = open_seeded(rt, root)?;
     serve_at(rt, folder, seeds, terms, path)
 }

@@ -1,4 +1,4 @@
-//! Where one client is waited for.
+//! The socket at which one client is awaited.
 
 use crate::folder::Unserved;
 use std::fs::File;
@@ -9,7 +9,7 @@ use std::os::unix::net::{UnixListener, UnixStream};
 use std::rt::Files;
 use std::{fs, io};
 
-/// Why nobody is waited for.
+/// Why no client can be awaited.
 fn unheard(error: io::Error) -> Unserved {
     match error.kind() {
         ErrorKind::OutOfMemory => Unserved::Memory,
@@ -17,7 +17,7 @@ fn unheard(error: io::Error) -> Unserved {
     }
 }
 
-/// The device and the inode number of what stands at the path, without following a link there.
+/// The device and the inode number of what is at the path, without following a link there.
 fn identity_of<R: Files<File = File> + AllocGlobal>(rt: &R, path: &str) -> Option<(u64, u64)> {
     match fs::symlink_metadata(rt, path) {
         Ok(metadata) => Some((metadata.dev(), metadata.ino())),
@@ -25,7 +25,7 @@ fn identity_of<R: Files<File = File> + AllocGlobal>(rt: &R, path: &str) -> Optio
     }
 }
 
-/// A socket that a client may connect to, and the file that was made for it.
+/// A socket to which a client may connect, and the file that was created for it.
 #[derive(Drop)]
 pub struct SocketFile {
     listener: UnixListener,
@@ -33,7 +33,7 @@ pub struct SocketFile {
 }
 
 impl SocketFile {
-    /// Makes the file of the socket.
+    /// Creates the socket with its file.
     pub fn new<H: Net + Files<File = File> + AllocGlobal>(
         rt: &H,
         path: &str,
@@ -55,7 +55,7 @@ impl SocketFile {
         }
     }
 
-    /// Removes the file that was made at `path`, if it still is what stands there. A fault of this is passed over.
+    /// Removes the file that was created at `path`, if it is still the one there. If that fails, the file remains.
     pub fn remove<R: Files<File = File> + AllocGlobal>(&self, rt: &R, path: &str) {
         if self.made.is_some() && identity_of(rt, path) == self.made {
             let _ = fs::remove_file(rt, path);

@@ -36,7 +36,7 @@ rest : (x y n : ℕ) → x + y ≡ n → not (nat_eq x 0) ≡ (if nat_eq n y the
 rest zero y n sum = ap (λ b. if b then false else true) (sym (eq-eqb n y (omega (arith, sum))))
 rest (suc x) y n sum = ap not (ne_eqb (suc x) 0 (λ e. omega (arith, e))) ∙ ap (λ b. if b then false else true) (sym (ne_eqb n y (λ e. omega (arith, e, sum))))
 
--- a bit that is none of three
+-- a bit other than these three
 pub is_other_set : (n : ℕ) → n < 2 ^ 32 → not (nat_eq (bit_and n 4294966711) 0) ≡ (if nat_eq n (2 ^ 3 * bit_at n 3 + 2 ^ 6 * bit_at n 6 + 2 ^ 9 * bit_at n 9) then false else true)
 is_other_set n small =
     rest (bit_and n 4294966711) (2 ^ 3 * bit_at n 3 + 2 ^ 6 * bit_at n 6 + 2 ^ 9 * bit_at n 9) n

@@ -20,7 +20,7 @@ use Rattle.terms.specs.declared.settings.Settings.{Settings}
 filled : (n : ℕ) → n + (8 - n % 8) % 8 ≡ (n + 7) / 8 * 8
 filled n = omega arith
 
--- they are as long as a page counts them
+-- they have the length that a page counts
 pub length-names : (at : ℕ) (cs : List Child) → length (names_bytes at cs) ≡ bytes_of false cs
 length-names at [] = refl
 length-names at (c ∷ cs) =

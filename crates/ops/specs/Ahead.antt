@@ -1,4 +1,4 @@
--- What a script in its code still asks.
+-- What a script in the code still has to do.
 use Rattle.std.specs.Prelude.{ℕ, ℤ, ◌+◌, is_some, List, [], ◌∷◌, length, map, true, false, Option, Some, None, option_map}
 use Rattle.paths.specs.Prefixes.{Names}
 use Rattle.backing.specs.Calls.{asked}
@@ -38,22 +38,22 @@ outcome_of (Replaced candidate) = HiddenMove candidate true
 outcome_of (Unmoved candidate errno) = HiddenMove candidate false
 outcome_of Kept = Failed
 
--- names that are lawless are an error
+-- names that are not lawful are an error
 abbrev pub end_of : ScriptResult → End
 end_of (Listed children) = listed_end children
 end_of finding = record { outcome = outcome_of finding; findings = finding }
 
--- it is of one path alone, or of none
+-- the request is not about a page
 abbrev pub IsOfNoPage : ScriptResult → Type 0
 IsOfNoPage (Looked founds) = ⊥
 IsOfNoPage finding = Unit {0}
 
--- its script takes memory
+-- its script allocates
 abbrev pub LooksAtEach : Operation → Type 0
 LooksAtEach (ops.ReadDirPlus fh offset size) = Unit {0}
 LooksAtEach operation = ⊥
 
--- what is told of what was found
+-- what is reported about what was found
 abbrev pub told_of : ReplyKind → FoundFile → End
 told_of telling.Nothing found = end_of Nothing
 told_of telling.Taken found = end_of (Error EEXIST)
@@ -90,7 +90,7 @@ abbrev pub plan_from : Option Call → Plan → Plan
 plan_from None rest = rest
 plan_from (Some call) rest = make (asked call) rest
 
--- a script that was refused with an error, or goes on
+-- a script that ended with an error, or goes on
 abbrev pub unless : Option ℤ → Plan → Plan
 unless None rest = rest
 unless (Some errno) rest = failed errno
@@ -100,12 +100,12 @@ plan_ahead script = plan_from script.change (plan_ending script.ending)
 
 -- how many calls it makes at most
 
--- one where a move comes after a hide
+-- one if a move comes after the hide
 abbrev pub calls_after : Option Names → ℕ
 calls_after None = 0
 calls_after (Some s) = 1
 
--- a look at each, a move, and so many after it
+-- a Stat of each candidate, a move, and that many after it
 abbrev pub calls_hiding : List Names → (after : ℕ) → ℕ
 calls_hiding [] after = 0
 calls_hiding (c ∷ cs) after = length cs + 2 + after
@@ -113,7 +113,7 @@ calls_hiding (c ∷ cs) after = length cs + 2 + after
 abbrev pub calls_in : Hiding → ℕ
 calls_in h = calls_hiding h.left.now (calls_after (option_map (λ s. s.now) h.source))
 
--- one for a part that is set, and one for two that are set together
+-- one for a part that is set, and only one for two that are set together
 abbrev pub calls_part : {X : Type 0} → Option X → ℕ
 calls_part None = 0
 calls_part (Some x) = 1
@@ -123,7 +123,7 @@ calls_pair None None = 0
 calls_pair (Some x) y = 1
 calls_pair None (Some y) = 1
 
--- and a look at the end
+-- and a Stat at the end
 abbrev pub calls_set : NewParts → ℕ
 calls_set parts = calls_part parts.permissions + calls_pair parts.uid parts.gid + calls_part parts.size + calls_pair parts.accessed parts.modified + 1
 

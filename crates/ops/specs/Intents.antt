@@ -1,4 +1,4 @@
--- What a request needs before its script.
+-- What a request needs before its script can run.
 use Rattle.std.specs.Prelude.{ℕ, ℤ, ◌+◌, ◌*◌, ◌^◌, ◌%◌, ◌==◌, nat_le, Bool, true, false, if◌then◌else◌, List, [], ◌∷◌, Option, Some, None}
 use Rattle.std.specs.Int.{bit_at}
 use Rattle.std.specs.List.{list_any}
@@ -28,18 +28,18 @@ use Rattle.ops.specs.declared.wanted.Wanted.TheVariants as wanted
 
 pub data Intent : Type 0 where
   Reply : (body : ReplyBody) → Intent  -- it is answered at once
-  Begin : (want : Want) → Intent  -- it is begun with a want
-  File : (fh : ℕ) → Intent  -- it asks whether a file is open under a handle on its node, and needs no script
+  Begin : (want : Want) → Intent  -- it begins with a want
+  File : (fh : ℕ) → Intent  -- it asks whether a file of its node is open under a handle, and needs no script
   Folder : (fh : ℕ) → (usage : FolderUse) → Intent  -- it uses the folder that is open under a handle
-  Forget : (lookups : List ForgetOne) → Intent  -- it gives lookups back, one after another, and is not answered
-  Nothing : Intent  -- the session works it off itself, or it is passed over
+  Forget : (lookups : List ForgetOne) → Intent  -- it forgets lookups, one after another, and is not answered
+  Nothing : Intent  -- the session handles it itself, or it is ignored
 
 abbrev pub refused : ℤ → Intent
 refused errno = Reply (Failed errno)
 
 -- ---- reserved names
 
--- the names of an operation, and the error where one of them is reserved
+-- the names of an operation, and the error if one of them is reserved
 abbrev pub names_of : Operation → List (List ℕ)
 names_of (ops.Lookup name) = name.now ∷ []
 names_of (ops.MakeDir name mode umask) = name.now ∷ []
@@ -56,30 +56,31 @@ reserved_errno operation = EPERM
 
 -- ---- SETATTR
 
--- bit 3 asks for the size, bit 6 names a handle, and bit 9 a lock owner
+-- bit 3 is for the size, bit 6 for a handle, and bit 9 for a lock owner
 abbrev pub sets_size : ℕ → Bool
 sets_size valid = bit_at valid 3 == 1
 
 abbrev pub has_handle : ℕ → Bool
 has_handle valid = bit_at valid 6 == 1
 
--- a bit that is none of these
+-- any other bit
 abbrev pub sets_details : ℕ → Bool
 sets_details valid = if valid == 2 ^ 3 * bit_at valid 3 + 2 ^ 6 * bit_at valid 6 + 2 ^ 9 * bit_at valid 9 then false else true
 
--- A bit for a field that is not set: with attributes of the host, bits from 11 on. Bit 10, the time of change, is passed over there.
+-- A bit for a field that is not set: with attributes of the host, bits from 11 on. Bit 10, the time of change, is
+-- ignored there.
 abbrev pub sets_other : Settings → ℕ → Bool
 sets_other (Fixed uid gid) valid = sets_details valid
 sets_other Host valid = nat_le (2 ^ 11) valid
 
--- what a handle must be open for: with attributes of the host, for writing only where the size is set
+-- the access that a handle must have: with attributes of the host, writing only if the size is set
 abbrev pub needed_to_set : Settings → ℕ → Need
 needed_to_set (Fixed uid gid) valid = need.Writing
 needed_to_set Host valid = if sets_size valid then need.Writing else need.Any
 
 -- ---- open files
 
--- the two lowest bits of the flags of an open
+-- the two lowest bits of an open's flags
 abbrev pub access_of : ℕ → Option Access
 access_of flags =
     if flags % 4 == 0 then Some Reading else
@@ -94,14 +95,14 @@ abbrev pub create_intent : ℕ → List ℕ → Option Access → Intent
 create_intent parent name (Some access) = Begin (wants.Create parent name access)
 create_intent parent name None = refused EINVAL
 
--- a move, by the flags of RENAME2: to whatever stands there, to what is free, or an exchange
+-- a move, by the flags of RENAME2: to any name, to a free name, or an exchange
 abbrev pub rename_intent : ℕ → List ℕ → ℕ → ℕ → List ℕ → Intent
 rename_intent parent name new_parent flags new_name =
     if flags == 0 then Begin (wants.Move parent name new_parent new_name false) else
     if flags == 1 then Begin (wants.Move parent name new_parent new_name true) else
     if flags == 2 then Begin (wants.Exchange parent name new_parent new_name) else refused EINVAL
 
--- the node, by the handle of an open file
+-- the node, through the handle of an open file
 abbrev pub by_handle : ℕ → ℕ → Need → Intent
 by_handle node fh needed = Begin (wants.Node node (Some (record { fh = fh; need = needed })))
 
@@ -110,7 +111,7 @@ set_intent s node valid fh =
     if sets_other s valid then refused EPERM else
     if has_handle valid then by_handle node fh (needed_to_set s valid) else Begin (wants.Node node None)
 
--- ---- the table of intents, reserved names aside
+-- ---- the table of intents, apart from reserved names
 
 abbrev pub intended : Settings → ℕ → Operation → Intent
 intended s node (ops.Lookup name) = Begin (wants.Name node name.now)
@@ -140,11 +141,11 @@ intended s node (ops.BatchForget pairs) = Forget (pairs_in pairs.now)
 intended s node (ops.ReadDirPlus fh offset size) = Folder fh (uses.ReadEntries offset size)
 intended s node (ops.Rename2 name new_parent flags new_name) = rename_intent node name.now new_parent flags new_name.now
 
--- Names are sound by the time a request was read; reserved ones are refused before all else.
+-- Names were checked when the request was read; reserved ones are refused before anything else.
 abbrev pub intent : Settings → Request → Intent
 intent s q = if list_any (λ name. is_reserved name) (names_of q.operation) then refused (reserved_errno q.operation) else intended s q.node q.operation
 
--- ---- an intent in its code, wherever the names lie in memory
+-- ---- an intent in the code, wherever its names are in memory
 
 abbrev pub want_of : Wanted → Want
 want_of (wanted.Node number handle) = wants.Node number handle
@@ -165,7 +166,7 @@ intent_in (coded.Forget lookups) = Forget (lookups ∷ [])
 intent_in (coded.ForgetAll pairs) = Forget (pairs_in pairs.now)
 intent_in coded.Nothing = Nothing
 
--- it has a name, which takes memory to keep
+-- it has a name, which must be copied
 abbrev pub HasName : Wanted → Type 0
 HasName (wanted.Node number handle) = ⊥
 HasName (wanted.Open number access) = ⊥

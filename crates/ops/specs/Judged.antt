@@ -1,4 +1,4 @@
--- What an answer of a directory counts as: one that is not right for its call is EIO.
+-- Checking a directory's answers: one that does not fit its call is EIO.
 use Rattle.std.specs.Prelude.{ℕ, ℤ, pos, int_le, nat_le, nat_lt, ◌^◌, ◌&&◌, ◌==◌, Bool, true, false, if◌then◌else◌, List, length}
 use Rattle.errno.specs.declared.TheConstants.{EIO}
 use Rattle.backing.specs.declared.call.Kind.{Kind}
@@ -11,21 +11,21 @@ use Rattle.backing.specs.Calls.{Asked, AskStat, AskList, AskMake, AskMakeDir, As
 abbrev pub is_errno : ℤ → Bool
 is_errno errno = int_le (pos 1) errno && int_le errno (pos 4095)
 
--- the error that an answer tells
+-- the error of an answer
 abbrev pub errno_in : Answer → ℤ
 errno_in (Fault errno) = if is_errno errno then errno else EIO
 errno_in answer = EIO
 
--- a folder has no size
+-- a folder has size 0
 abbrev pub is_sized : Kind → ℕ → Bool
 is_sized Folder size = size == 0
 is_sized File size = true
 
--- as many were written as are there, or fewer; and a reply can tell it, by 32 bits
+-- no more bytes were written than there are, and a reply can say how many, in 32 bits
 abbrev pub is_written : List ℕ → ℕ → Bool
 is_written piece count = nat_le count (length piece) && nat_lt count (2 ^ 32)
 
--- the answer is of its call's kind and shape, and no more than was asked
+-- the answer has the kind and shape for its call, and no more than was asked for
 abbrev pub fits : Asked → Answer → Bool
 fits (AskStat p) (Stat kind size details) = is_sized kind size
 fits (AskList p) (Names children) = true

@@ -1,4 +1,4 @@
--- Looks at one path after another.
+-- Looking at several paths, one after another.
 use Rattle.std.specs.Prelude.{List, [], ◌∷◌, ◌++◌, Option}
 use Rattle.paths.specs.Prefixes.{Names}
 use Rattle.backing.specs.Calls.{AskStat}
@@ -12,7 +12,7 @@ pub record Looking : Type 0 where
   pub left : List Names
   pub found : List (Option FoundFile)
 
--- the same after the answer to the next look
+-- the same after the answer to the next Stat
 abbrev pub looked_on : List Names → List (Option FoundFile) → Answer → Looking
 looked_on [] found answer = record { left = []; found = found }
 looked_on (p ∷ ps) found answer = record { left = ps; found = found ++ found_in (judged (AskStat p) answer) ∷ [] }

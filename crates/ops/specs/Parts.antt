@@ -1,4 +1,4 @@
--- What a SETATTR sets, and what a file or a folder is made with.
+-- What a SETATTR sets, and the permission bits of a new file or folder.
 use Rattle.std.specs.Prelude.{ℕ, ◌-◌, ◌^◌, ◌==◌, bit_and, if◌then◌else◌, Option, Some, None, option_map}
 use Rattle.std.specs.Int.{bit_at}
 use Rattle.backing.specs.declared.call.NewTime.{NewTime}
@@ -10,14 +10,14 @@ use Rattle.ops.specs.declared.parts.NewParts.{NewParts}
 use Rattle.terms.specs.declared.settings.Settings.{Settings}
 use Rattle.terms.specs.declared.settings.Settings.TheVariants.{Fixed, Host}
 
--- a value counts where its bit of `valid` is set
+-- a value counts if its bit of `valid` is set
 abbrev pub counted : {X : Type 0} → (valid bit : ℕ) → X → Option X
 counted valid bit value = if bit_at valid bit == 1 then Some value else None
 
 abbrev pub time_at : Told → Time
 time_at t = record { seconds = t.seconds; nanos = t.nanos }
 
--- the present, where its bit is set, else the time, where its own is
+-- the current time if its bit is set, or else the given time if the bit for that is set
 abbrev pub new_time : (valid bit now_bit : ℕ) → Told → Option NewTime
 new_time valid bit now_bit t = if bit_at valid now_bit == 1 then Some Now else if bit_at valid bit == 1 then Some (At (time_at t)) else None
 
@@ -36,7 +36,8 @@ parts_of valid size new = record {
   modified = new_time valid 5 8 new.modified;
 }
 
--- ---- what a file or a folder is made with: with attributes of the host, the permission bits of the request's mode that are not in its umask
+-- ---- the permission bits of a new file or folder: with attributes of the host, those of the request's mode without
+-- its umask
 
 abbrev pub unmasked : (mode umask : ℕ) → ℕ
 unmasked mode umask = bit_and (permissions_of mode) (2 ^ 32 - 1 - umask)

@@ -1,4 +1,4 @@
--- What a request is answered, by what its script found and what its table gave.
+-- The answer to a request, given the result of its script and what its table gave.
 use Rattle.std.specs.Prelude.{ℕ, ℤ, ◌+◌, ◌==◌, if◌then◌else◌, List, [], ◌∷◌, drop, slice_get, Option, Some, None, option_and_then}
 use Rattle.std.specs.List.{flat_map}
 use Rattle.errno.specs.declared.TheConstants.{EBADF, EIO, ENFILE}
@@ -31,7 +31,7 @@ abbrev pub kind_of : Told → Kind
 kind_of kinds.Folder = Folder
 kind_of kinds.File = File
 
--- ---- attributes: a table of two rows
+-- ---- attributes, for each of the two settings
 
 abbrev pub time_of : SeenTime → Time
 time_of t = record { seconds = t.seconds; nanos = t.nanos }
@@ -40,12 +40,12 @@ time_of t = record { seconds = t.seconds; nanos = t.nanos }
 abbrev pub epoch : Time
 epoch = record { seconds = 0; nanos = 0 }
 
--- a folder is entered by all, and changed by its owner alone
+-- everyone may enter a folder, and only its owner may change it
 abbrev pub fixed_permissions : Told → ℕ
 fixed_permissions kinds.Folder = 493  -- 0o755
 fixed_permissions kinds.File = 420  -- 0o644
 
--- a folder has a name, and is `.` in itself
+-- a folder has its name, and `.` in itself
 abbrev pub fixed_links : Told → ℕ
 fixed_links kinds.Folder = 2
 fixed_links kinds.File = 1
@@ -56,7 +56,7 @@ fixed_details uid gid kind = record { permissions = fixed_permissions kind; link
 abbrev pub host_details : Seen → Details
 host_details d = record { permissions = d.permissions; links = d.links; uid = d.uid; gid = d.gid; accessed = time_of d.accessed; modified = time_of d.modified; changed = time_of d.changed }
 
--- the inode number, and what is told beside the kind and the size
+-- the inode number, and the details
 abbrev pub ino_of : Settings → (node : ℕ) → FoundFile → ℕ
 ino_of (Fixed uid gid) node found = node
 ino_of Host node found = found.details.ino
@@ -71,7 +71,7 @@ attributes_of s node found = record { ino = ino_of s node found; kind = kind_of 
 abbrev pub entry_of : Settings → FoundFile → Given → Entry
 entry_of s found given = record { node = given.number; generation = given.generation; attributes = attributes_of s given.number found }
 
--- what stands first in a list of which each may be missing
+-- the first in a list of optional items
 abbrev pub first : {X : Type 0} → List (Option X) → Option X
 first xs = option_and_then (λ x. x) (slice_get xs 0)
 
@@ -79,12 +79,12 @@ abbrev pub entry_reply : Settings → FoundFile → Option Given → ReplyBody
 entry_reply s found (Some given) = body.Entry (entry_of s found given)
 entry_reply s found None = body.Failed EIO
 
--- the handle, or the error where there is none
+-- the handle, or the error if there is none
 abbrev pub handle_reply : ℤ → Option ℕ → ReplyBody
 handle_reply errno (Some fh) = body.Opened fh
 handle_reply errno None = body.Failed errno
 
--- a listing that was put, or not
+-- a listing that was stored, or not
 abbrev pub opened_reply : Option ℕ → ReplyBody
 opened_reply put = handle_reply ENFILE put
 
@@ -93,19 +93,19 @@ abbrev pub created_reply : Settings → FoundFile → Option Given → Option �
 created_reply s found (Some given) (Some fh) = body.Created (entry_of s found given) fh
 created_reply s found given opened = body.Failed EIO
 
--- whether the file under a handle is open on the node
+-- whether the file under a handle is one of the node
 abbrev pub file_reply : ℕ → Option OpenFile → ReplyBody
 file_reply node None = body.Failed EBADF
 file_reply node (Some file) = if file.number == node then body.Done else body.Failed EBADF
 
 -- ---- entries of a page, from an index on
 
--- an entry where something was found and given, else one of zeros, with the listing's kind
+-- an entry if something was found and given, otherwise one of zeros, with the listing's kind
 abbrev pub plus_entry : Settings → (next : ℕ) → Child → Option FoundFile → Option Given → PlusDirent
 plus_entry s next child (Some found) (Some given) = record { entry = Some (entry_of s found given); next = next; kind = kind_of found.kind; name = child.name }
 plus_entry s next child found given = record { entry = None; next = next; kind = kind_of child.kind; name = child.name }
 
--- `.` and `..` have entries of zeros, and nothing was looked up or given for them
+-- `.` and `..` have entries of zeros, since they are not looked up
 abbrev pub plus_from : Settings → ℕ → List Child → List (Option FoundFile) → List (Option Given) → List PlusDirent
 plus_from s at [] founds givens = []
 plus_from s at (child ∷ children) founds givens =
@@ -115,7 +115,7 @@ plus_from s at (child ∷ children) founds givens =
 abbrev pub entries_bytes : Settings → ℕ → List Child → List (Option FoundFile) → List (Option Given) → List ℕ
 entries_bytes s at children founds givens = flat_map plus_bytes (plus_from s at children founds givens)
 
--- ---- replies to a request about that node, which may tell a page; a listing was put under a handle, or not
+-- ---- the reply to a request about that node, which may return a page; a listing was stored under a handle, or not
 
 abbrev pub reply_to : Settings → ℕ → Paged → ScriptResult → (put : Option ℕ) → Answer → ReplyBody
 reply_to s node page (findings.Error errno) put answer = body.Failed errno

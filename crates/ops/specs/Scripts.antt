@@ -1,4 +1,4 @@
--- What each request asks of the directory, and what it comes to.
+-- What each request asks of the directory, and its result.
 use Rattle.std.specs.Prelude.{ℕ, ℤ, ◌≡◌, ◌-◌, length, Bool, true, false, ◌==◌, if◌then◌else◌, is_some, List, [], ◌∷◌, map, Option, Some, None}
 use Rattle.errno.specs.declared.TheConstants.{EBUSY, EEXIST, EIO, EISDIR, ENOENT, ENOTDIR}
 use Rattle.std.specs.Ordering.{int_eq}
@@ -25,14 +25,14 @@ use Rattle.ops.specs.declared.parts.NewParts.{NewParts}
 use Rattle.ops.specs.Parts.{made_with, parts_of}
 use Rattle.ops.specs.Judged.{errno_in, judged}
 
--- ---- what a script comes to
+-- ---- the end of a script
 
--- the outcome for the table, and what the directory told, for the reply
+-- the outcome for the table, and the result for the reply
 pub record End : Type 0 where
   pub outcome : Outcome
   pub findings : ScriptResult
 
--- the next call and how it goes on after each answer, or the end
+-- the next call and how the plan goes on after each answer, or the end
 pub data Plan : Type 0 where
   Ask : (call : Asked) → (next : Answer → Plan) → Plan
   Over : (end : End) → Plan
@@ -43,7 +43,7 @@ over outcome findings = Over (record { outcome = outcome; findings = findings })
 abbrev pub failed : ℤ → Plan
 failed errno = over Failed (Error errno)
 
--- ---- one call, and how the script goes on where it is done; another answer ends the script with its error
+-- ---- one call, and how the script goes on if it succeeds; any other answer ends the script with its error
 
 abbrev pub if_done : Plan → Answer → Plan
 if_done rest told.Done = rest
@@ -59,7 +59,7 @@ if_found rest answer = failed (errno_in answer)
 abbrev pub look : Names → (FoundFile → Plan) → Plan
 look p rest = Ask (AskStat p) (λ answer. if_found rest answer)
 
--- names that are lawless, or stand twice, are an error
+-- names that are not lawful, or come twice, are an error
 abbrev pub listed_end : List Child → End
 listed_end children = if are_lawful children then record { outcome = Done; findings = Listed children } else record { outcome = Failed; findings = Error EIO }
 
@@ -84,24 +84,24 @@ if_written answer = failed (errno_in answer)
 abbrev pub write : Names → ℕ → List ℕ → Plan
 write p offset piece = Ask (AskWrite p offset piece) if_written
 
--- ---- the paths of a ticket. One that has not the paths of its request, which no table makes, is an EIO.
+-- ---- the paths of a ticket. A ticket without the paths of its request, which no table makes, gives EIO.
 
--- the node's, or the name's
+-- that of the node or the name
 abbrev pub at_path : List Names → (Names → Plan) → Plan
 at_path [] plan = failed EIO
 at_path (p ∷ ps) plan = plan p
 
--- the name's, and those that its file may be hidden under
+-- that of the name, and those under which its file may be hidden
 abbrev pub at_candidates : List Names → (Names → List Names → Plan) → Plan
 at_candidates [] plan = failed EIO
 at_candidates (p ∷ ps) plan = plan p ps
 
--- the source of a move, its target, and those that the file at the target may be hidden under
+-- the source of a move, its target, and those under which the file at the target may be hidden
 abbrev pub at_paths : List Names → (Names → Names → List Names → Plan) → Plan
 at_paths [] plan = failed EIO
 at_paths (s ∷ ps) plan = at_candidates ps (λ t candidates. plan s t candidates)
 
--- ---- how scripts end
+-- ---- the ends of scripts
 
 abbrev pub give_entry : Names → Plan
 give_entry p = look p (λ found. over Entry (NewEntry found))
@@ -123,7 +123,7 @@ open_file p = look p (λ found. Over (open_end found.kind))
 abbrev pub done : Plan
 done = over Done Nothing
 
--- ---- SETATTR: each part that is asked for is one call, permission bits first, then the owner, the size, and the times
+-- ---- SETATTR: one call for each part, permission bits first, then the owner, the size, and the times
 
 abbrev pub set_permissions : Option ℕ → Names → Plan → Plan
 set_permissions None p rest = rest
@@ -143,20 +143,20 @@ set_times None None p rest = rest
 set_times (Some accessed) modified p rest = make (AskSetTimes p (Some accessed) modified) rest
 set_times None (Some modified) p rest = make (AskSetTimes p None (Some modified)) rest
 
--- what is told of the node then
+-- what is reported about the node afterwards
 abbrev pub set_parts : Names → NewParts → Plan
 set_parts p parts =
     set_permissions parts.permissions p (set_owner parts.uid parts.gid p (set_size parts.size p (set_times parts.accessed parts.modified p (tell_attributes p))))
 
 -- ---- requests whose footprints have several forms
 
--- A look at a name that may be free: nothing stands there, something does, or the script ends with another error.
+-- A Stat of a name that may be free: nothing is there, or something is, or the script ends with another error.
 abbrev pub if_free : (free taken : Plan) → Answer → Plan
 if_free free taken (told.Stat kind size details) = taken
 if_free free taken answer = if int_eq (errno_in answer) ENOENT then free else failed (errno_in answer)
 
--- A file that is open is moved to the first of its candidates where nothing stands, and what comes after is told the index of that. There
--- are ten of them, counted from 0.
+-- An open file is moved to the first candidate at which nothing exists, and what comes after depends on the index of
+-- that. There are ten candidates, counted from 0.
 abbrev pub hide : Names → List Names → (ℕ → Plan) → Plan
 hide p [] rest = failed EBUSY
 hide p (c ∷ cs) rest = Ask (AskStat c) (λ answer. if_free (make (AskRename p c) (rest (10 - length (c ∷ cs)))) (hide p cs rest) answer)
@@ -165,7 +165,7 @@ abbrev pub unlink : (hides : Bool) → Names → List Names → Plan
 unlink true p candidates = hide p candidates (λ i. over (Hidden i) (Hid i))
 unlink false p candidates = make (AskRemove p) done
 
--- The move to the place of a file that was hidden. Where it fails the file stays hidden, and nothing stands at its place.
+-- The move to the place of a file that was hidden. If it fails, the file stays hidden and nothing is at its place.
 abbrev pub if_moved : ℕ → Answer → Plan
 if_moved i told.Done = over (HiddenMove i true) (Replaced i)
 if_moved i answer = over (HiddenMove i false) (Unmoved i (errno_in answer))
@@ -173,27 +173,27 @@ if_moved i answer = over (HiddenMove i false) (Unmoved i (errno_in answer))
 abbrev pub move_after : Names → Names → ℕ → Plan
 move_after s t i = Ask (AskRename s t) (λ answer. if_moved i answer)
 
--- a folder takes the place of no file
+-- a folder cannot replace a file
 abbrev pub unless_folder : Kind → Plan → Plan
 unless_folder kinds.Folder rest = failed ENOTDIR
 unless_folder kinds.File rest = rest
 
--- A file is moved to the place of one that is open, which is hidden first.
+-- A file is moved to the place of an open one, which is hidden first.
 abbrev pub replace : Names → Names → List Names → Plan
 replace s t candidates = look s (λ found. unless_folder found.kind (hide t candidates (λ i. move_after s t i)))
 
--- A move of a path to itself only needs something to stand there.
+-- A move of a path to itself only requires that something is there.
 abbrev pub rename : (same hides : Bool) → Names → Names → List Names → Plan
 rename true hides s t candidates = look s (λ found. done)
 rename false true s t candidates = replace s t candidates
 rename false false s t candidates = make (AskRename s t) done
 
--- A move that replaces nothing: a path that stands is not free to be moved to, its own neither.
+-- A move that replaces nothing: if something is at the target, even if source and target are the same, it is refused.
 abbrev pub rename_new : (same : Bool) → Names → Names → Plan
 rename_new true s t = look s (λ found. failed EEXIST)
 rename_new false s t = make (AskRenameNew s t) done
 
--- An exchange of a path with itself only needs something to stand there.
+-- An exchange of a path with itself only requires that something is there.
 abbrev pub exchange : (same : Bool) → Names → Names → Plan
 exchange true s t = look s (λ found. done)
 exchange false s t = make (AskExchange s t) done
@@ -205,7 +205,7 @@ rename_by flags same hides s t candidates =
     if flags == 1 then rename_new same s t else
     if flags == 2 then exchange same s t else failed EIO
 
--- The client has closed a file that is removed then, and is not told where that fails: the file is kept.
+-- The client has closed a file that is then removed. It is not told if that fails, and the file is kept.
 abbrev pub if_removed : Answer → Plan
 if_removed told.Done = done
 if_removed answer = over Failed Kept
@@ -213,12 +213,13 @@ if_removed answer = over Failed Kept
 abbrev pub remove_closed : Names → Plan
 remove_closed p = Ask (AskRemove p) if_removed
 
--- The handle was closed when it began. The last one of a hidden file removes it; else no call is made, also of a node that has no path.
+-- The handle was closed at the begin. If it was the last one of a hidden file, the file is removed; otherwise no call
+-- is made, for example if the node has no path.
 abbrev pub release : (last : Bool) → List Names → Plan
 release true paths = at_path paths (λ p. remove_closed p)
 release false paths = done
 
--- ---- what stands at each of some paths: a fault is nothing, and does not end the script
+-- ---- a Stat of each of several paths: a fault means that nothing is there, and does not end the script
 
 abbrev pub found_in : Answer → Option FoundFile
 found_in (told.Stat kind size details) = Some (record { kind = kind; size = size; details = details })
@@ -228,11 +229,11 @@ abbrev pub look_at_each : List Names → (List (Option FoundFile) → Plan) → 
 look_at_each [] rest = rest []
 look_at_each (p ∷ ps) rest = Ask (AskStat p) (λ answer. look_at_each ps (λ founds. rest (found_in answer ∷ founds)))
 
--- an entry is given where something stands
+-- an entry is given if something is there
 abbrev pub give_found : List (Option FoundFile) → Plan
 give_found founds = over (Entries (map (λ found. is_some found) founds)) (Looked founds)
 
--- the path of the folder stands before those of its names
+-- the path of the folder comes before those of its names
 abbrev pub at_names : List Names → Plan
 at_names [] = failed EIO
 at_names (folder ∷ ps) = look_at_each ps give_found
@@ -268,21 +269,21 @@ plan_of settings ops.Interrupt ticket = failed EIO
 plan_of settings ops.Destroy ticket = failed EIO
 plan_of settings (ops.BatchForget pairs) ticket = failed EIO
 
--- ---- what is made of a plan
+-- ---- following a plan
 
--- a call that was made, and what was answered
+-- a call that was made, and its answer
 pub record Made : Type 0 where
   pub call : Asked
   pub answer : Answer
 
--- Whole lists of calls and answers that the plan leads through, and its end.
+-- Complete lists of calls and answers that the plan leads through, with its end.
 abbrev pub Follows : Plan → List Made → End → Type 0
 Follows (Over end) [] reached = reached ≡ end
 Follows (Over end) (m ∷ ms) reached = ⊥
 Follows (Ask call next) [] reached = ⊥
 Follows (Ask call next) (m ∷ ms) reached = (m.call ≡ call) × Follows (next (judged call m.answer)) ms reached
 
--- a plan's next call, and how it goes on after an answer; a plan that is over stays
+-- a plan's next call, and how it goes on after an answer; a plan that is over does not change
 abbrev pub next_of : Plan → Option Asked
 next_of (Ask call next) = Some call
 next_of (Over end) = None
@@ -291,7 +292,7 @@ abbrev pub after : Plan → Answer → Plan
 after (Ask call next) answer = next (judged call answer)
 after (Over end) answer = Over end
 
--- what is handed out next is what the plan asks
+-- the call that is returned next is the one that the plan asks for
 abbrev pub AsksNext : Option Call → Option Asked → Type 0
 AsksNext (Some call) next = next ≡ Some (asked call)
 AsksNext None next = next ≡ None

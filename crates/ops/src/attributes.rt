@@ -1,4 +1,4 @@
-//! Which attributes replies tell: a table of two rows.
+//! The attributes in replies, for each of the two settings.
 
 ghost use Rattle.std.specs.Prelude.{◌≡◌};
 ghost use Rattle.ops.specs.Replies.{attributes_of, details_of, epoch, fixed_details, fixed_links, fixed_permissions, host_details, ino_of, kind_of, time_of};
@@ -14,7 +14,7 @@ const EPOCH: Time = Time {
     nanos: 0,
 };
 
-/// The kind as a reply tells it.
+/// The kind, as a reply has it.
 pub(crate) fn kind_of(kind: Kind) -> wire::Kind
     ensures { result ≡ kind_of kind }
 {
@@ -24,7 +24,7 @@ pub(crate) fn kind_of(kind: Kind) -> wire::Kind
     }
 }
 
-/// A time as a reply tells it.
+/// A time, as a reply has it.
 fn time_of(time: backing::Time) -> Time
     ensures { result ≡ time_of time }
 {
@@ -34,7 +34,7 @@ fn time_of(time: backing::Time) -> Time
     }
 }
 
-/// Whoever owns it may change it, and anybody may read it and enter it.
+/// The owner may change everything; everyone may read it and enter folders.
 fn fixed_permissions(kind: Kind) -> u32
     ensures { result ≡ fixed_permissions kind }
 {
@@ -54,7 +54,7 @@ fn fixed_links(kind: Kind) -> u32
     }
 }
 
-/// What is told of everything of a kind.
+/// The details of every node of that kind.
 fn fixed_details(uid: u32, gid: u32, kind: Kind) -> Details
     ensures { result ≡ fixed_details uid gid kind }
 {
@@ -69,7 +69,7 @@ fn fixed_details(uid: u32, gid: u32, kind: Kind) -> Details
     }
 }
 
-/// What the directory tells.
+/// The details that the directory reports.
 fn host_details(details: backing::Details) -> Details
     ensures { result ≡ host_details details }
 {

@@ -1,4 +1,4 @@
-//! READDIRPLUS: a page of an open folder whose names are looked up, and the reply that tells it.
+//! READDIRPLUS: a page of an open folder whose names are looked up, and the reply with it.
 
 ghost use Rattle.std.specs.Prelude.{◌≡◌, ◌+◌, ◌^◌, ◌<◌, ◌++◌, true, length, drop, IfOk, OnOk};
 ghost use Rattle.handles.specs.Names.{is_dot};
@@ -22,7 +22,7 @@ use table_requests::{Given, Names, Want};
 use terms::Settings;
 use wire::{ReplyBody, encode_plus_dirent};
 
-/// A page with entries of its own, which outlives its listing.
+/// A page that owns its entries, so that it can outlive its listing: no listing is lent while the directory is called.
 #[derive(Drop)]
 pub struct Paged {
     from: u64,
@@ -40,7 +40,7 @@ impl Model for Paged {
     ghost invariant = { λ p. p.from + length p.entries.items < 2 ^ 64 };
 }
 
-/// The entries once more.
+/// A copy of the entries.
 fn copy_entries(alloc: Global, entries: &[Child]) -> Result<Vec<Child>, AllocError>
     ensures { IfOk result (λ v. v.items ≡ entries.now) }
 {
@@ -54,7 +54,7 @@ fn copy_entries(alloc: Global, entries: &[Child]) -> Result<Vec<Child>, AllocErr
     Ok(copies)
 }
 
-/// The names that are looked up: all but `.` and `..`.
+/// The names that are looked up: all except `.` and `..`.
 fn names_on(alloc: Global, entries: &[Child]) -> Result<Names, AllocError>
     ensures { IfOk result (λ names. names ≡ names_on entries.now) }
 {
@@ -68,7 +68,7 @@ fn names_on(alloc: Global, entries: &[Child]) -> Result<Names, AllocError>
 }
 
 impl Paged {
-    /// A page without entries, for a request that is of none. It takes no memory.
+    /// A page without entries, for a request that has none. It does not allocate.
     pub fn none(alloc: Global) -> Paged
         ensures { result ≡ no_page }
     {
@@ -78,7 +78,7 @@ impl Paged {
         }
     }
 
-    /// The same page.
+    /// A copy of the page.
     pub fn copy_of(alloc: Global, page: Page<'_>) -> Result<Paged, AllocError>
         ensures { IfOk result (λ paged. paged ≡ record { from = page.entry.from; entries = page.entry.entries.now }) }
     {
@@ -87,7 +87,7 @@ impl Paged {
         Ok(Paged { from, entries })
     }
 
-    /// What a request is begun with that tells this page of the folder.
+    /// The want of a request that returns this page of the folder.
     pub fn want(&self, alloc: Global, folder: u64) -> Result<Want, AllocError>
         ensures { IfOk result (λ want. want ≡ page_want folder self.now.entries) }
     {
@@ -104,7 +104,7 @@ fn is_dot(name: &Name) -> bool
     bytes == b".".as_slice() || bytes == b"..".as_slice()
 }
 
-/// Puts an entry at the end of a vector, with the node of what was found and given.
+/// Appends an entry to a vector, with the node of what was found and given.
 fn put_entry(
     out: &mut Vec<u8>,
     settings: Settings,
@@ -125,7 +125,7 @@ fn put_entry(
     }
 }
 
-/// What stands first, if anything.
+/// The first item, if any.
 fn first_of<T: Copy>(items: &[Option<T>]) -> Option<T>
     ensures { result ≡ first items.now }
 {
@@ -135,7 +135,7 @@ fn first_of<T: Copy>(items: &[Option<T>]) -> Option<T>
     }
 }
 
-/// What comes after the first.
+/// The items after the first.
 fn rest_of<T: Copy>(items: &[Option<T>]) -> &[Option<T>]
     ensures { result.now ≡ drop 1 items.now }
 {
@@ -145,7 +145,8 @@ fn rest_of<T: Copy>(items: &[Option<T>]) -> &[Option<T>]
     }
 }
 
-/// Puts entries at the end of a vector, each with the node of what was found and given for its name. The first stands at index `from`.
+/// Appends entries to a vector, each with the node of what was found and given for its name. The first one has index
+/// `from`.
 fn put_entries(
     out: &mut Vec<u8>,
     settings: Settings,
@@ -180,8 +181,8 @@ fn put_entries(
     Ok(())
 }
 
-/// What READDIRPLUS is answered that tells this page: each entry with the node of what was found and given for its name, but `.` and
-/// `..`, for which nothing is looked up.
+/// The answer to a READDIRPLUS with this page: each entry with the node of what was found and given for its name. `.`
+/// and `..` are not looked up.
 pub fn entries_reply(
     alloc: Global,
     settings: Settings,

@@ -1,4 +1,4 @@
-//! What scripts come to.
+//! The results of scripts.
 
 ghost use Rattle.std.specs.Prelude.{◌≡◌};
 ghost use Rattle.ops.specs.Ahead.{outcome_of, IsOfNoPage};
@@ -8,7 +8,7 @@ use backing::{Children, Details, Kind};
 use payload::Payload;
 use table::Outcome;
 
-/// What stands at a path.
+/// What was found at a path.
 #[derive(Clone, Copy, Debug, PartialEq, Eq)]
 pub struct FoundFile {
     pub kind: Kind,
@@ -17,42 +17,43 @@ pub struct FoundFile {
     pub details: Details,
 }
 
-/// What a script has found, for the reply.
+/// The result of a script, for the reply.
 #[derive(Drop)]
 pub enum ScriptResult {
     /// An error number, from 1 to 4,095.
     Error { errno: i32 },
-    /// It is done, and there is no more to say.
+    /// It was done, and the reply has no body.
     Nothing,
-    /// An entry of this is to be given.
+    /// An entry for this is to be given.
     NewEntry(FoundFile),
-    /// A file of this was made: an entry of it is to be given, and it is to be opened.
+    /// A file was created: an entry for it is to be given, and it is to be opened.
     NewFile(FoundFile),
-    /// Attributes are told.
+    /// The attributes to be returned.
     Attributes(FoundFile),
-    /// A file stands there, and is to be opened.
+    /// There is a file, and it is to be opened.
     Opening,
     /// Bytes of a file.
     Bytes(Payload),
-    /// So many bytes were written.
+    /// That many bytes were written.
     Written { size: u32 },
-    /// A folder has these names. A listing is made of them yet; where they are lawless, that is an error, EIO (own).
+    /// The names of a folder. A listing is still to be made from them; if they are not lawful, that is an error, EIO
+    /// (own).
     Listed(Children),
-    /// What stands at each name of a page. Entries of those that stand there are to be given.
+    /// What was found at each name of a page. Entries are to be given for those that exist.
     Looked(Looked),
-    /// A file was moved to the candidate of that index, counted from 0.
+    /// A file was moved to the candidate with this index, counted from 0.
     Hid { candidate: u8 },
-    /// A file was moved to the candidate of that index, and then another to its place.
+    /// A file was moved to the candidate with this index, and then another to its place.
     Replaced { candidate: u8 },
-    /// A file was moved to the candidate of that index, and then the move of another to its place failed by that error number, from 1 to
-    /// 4,095.
+    /// A file was moved to the candidate with this index, and then moving another to its place failed with this error
+    /// number, from 1 to 4,095.
     Unmoved { candidate: u8, errno: i32 },
-    /// A file that was closed could not be removed, which the reply does not tell.
+    /// A file that was closed could not be removed; the reply does not say so.
     Kept,
 }
 
 impl ScriptResult {
-    /// The outcome that the table is told, where a listing is lawful. That of a page is made by `Looked::into_parts`.
+    /// The outcome for the table, given that a listing is lawful. For a page `Looked::into_parts` makes it.
     pub fn outcome(&self) -> Outcome
         requires { IsOfNoPage self.now }
         ensures { result ≡ outcome_of self.now }

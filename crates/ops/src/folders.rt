@@ -1,4 +1,4 @@
-//! Names of an open folder, as replies.
+//! Replies with the names of an open folder.
 
 ghost use Rattle.std.specs.Prelude.{◌≡◌, ◌+◌, ◌^◌, ◌<◌, ◌++◌, false, length, List, Option, Some, IfOk, OnErr, OnOk};
 ghost use Rattle.backing.specs.declared.call.Child.{Child};
@@ -12,7 +12,7 @@ use payload::Payload;
 use std::alloc::{AllocError, Global};
 use wire::{NO_INO, ReplyBody, encode_dirent};
 
-/// Puts entries at the end of a vector. The first stands at index `from`.
+/// Appends entries to a vector. The first one has index `from`.
 fn put_names(out: &mut Vec<u8>, from: u64, children: &[Child]) -> Result<(), AllocError>
     requires { from + length children.now < 2 ^ 64 }
     ensures { OnOk result (out.new.items ≡ out.old.items ++ names_bytes from children.now) }
@@ -25,7 +25,8 @@ fn put_names(out: &mut Vec<u8>, from: u64, children: &[Child]) -> Result<(), All
     Ok(())
 }
 
-/// What READDIR is answered: as many entries as fit, from an index on. Where one stands there and does not fit, it is EINVAL (own).
+/// The answer to a READDIR: as many entries as fit, from an index on. If there is an entry there and it does not fit,
+/// the answer is EINVAL (own).
 pub fn names_reply(
     alloc: Global,
     listing: &Listing,

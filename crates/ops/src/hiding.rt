@@ -1,4 +1,4 @@
-//! How a file that is open is hidden, by an UNLINK, or by a RENAME that moves another file to its place.
+//! Hiding an open file, for an UNLINK, or for a RENAME that moves another file to its place.
 
 ghost use Rattle.std.specs.Prelude.{◌≡◌, ◌-◌, ℕ, length, option_map};
 ghost use Rattle.paths.specs.Prefixes.{Names};
@@ -13,27 +13,27 @@ use errno::{EBUSY, EIO, ENOENT};
 use paths::Path;
 use table::Ticket;
 
-/// How many names a file may be hidden under.
+/// How many candidates a file may be hidden under.
 const CANDIDATES: usize = 10;
 
-/// A file that is to be moved to the first of some candidates where nothing stands.
+/// A file that is to be moved to the first candidate at which nothing exists.
 #[derive(Clone, Copy, Drop)]
 pub struct Hiding<'a> {
     pub path: &'a Path,
-    /// What is moved to its place then, if something is.
+    /// What is moved to its place afterwards, if anything.
     pub source: Option<&'a Path>,
-    /// The candidates that are left.
+    /// The candidates that were not tried yet.
     pub left: &'a [Path],
 }
 
-/// The index of the first candidate that is left, counted from 0.
+/// The index of the first candidate that was not tried yet, counted from 0.
 fn index_of(left: &[Path]) -> u8
     ensures { result ≡ 10 - length left.now }
 {
     CANDIDATES.saturating_sub(left.len()) as u8
 }
 
-/// The script of an UNLINK, from the first path of its ticket.
+/// The script of an UNLINK of the first path of its ticket.
 pub(crate) fn start_unlink(ticket: &Ticket) -> Script<'_>
     ensures { plan_ahead result ≡ at_candidates ticket.now.paths (λ p candidates. unlink ticket.now.hide p candidates) }
 {
@@ -48,7 +48,7 @@ pub(crate) fn start_unlink(ticket: &Ticket) -> Script<'_>
     Script { change, ending }
 }
 
-/// What is told where no candidate is left.
+/// The result if no candidate is left.
 pub(crate) fn unhidden(left: &[Path]) -> ScriptResult
     ensures { (path : Names) (rest : ℕ → Plan) (end : End) → hide path left.now rest ≡ Over end → end_of result ≡ end }
 {
@@ -58,7 +58,7 @@ pub(crate) fn unhidden(left: &[Path]) -> ScriptResult
     }
 }
 
-/// What is still to do after the file at the path was moved to that candidate.
+/// What is left to do after the file was moved to that candidate.
 fn after_hide<'a>(path: &'a Path, source: Option<&'a Path>, candidate: u8) -> LastCall<'a>
     ensures plan { plan_ending result ≡ after_hide path.now (option_map (λ s. s.now) source.entry) candidate }
     ensures calls { calls_ending result ≡ calls_after (option_map (λ s. s.now) source.entry) }
@@ -78,7 +78,7 @@ impl<'a> Hiding<'a> {
     ghost use Rattle.ops.specs.Ahead.{calls_in, calls_left, plan_ahead, plan_hiding};
     ghost use Rattle.ops.specs.Scripts.{after};
 
-    /// What is still to do after the answer to a look at the first candidate that is left.
+    /// What is left to do after the answer to the Stat of the next candidate.
     pub fn on(self, answer: Answer) -> Script<'a>
         ensures plan { plan_ahead result ≡ after (plan_hiding self.entry) answer }
         ensures fewer { 0 < calls_in self.entry → calls_left result < calls_in self.entry }

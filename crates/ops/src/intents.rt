@@ -1,4 +1,4 @@
-//! What a request needs before its script.
+//! What a request needs before its script can run.
 
 ghost use Rattle.std.specs.Prelude.{◌≡◌};
 ghost use Rattle.std.specs.List.{list_any};
@@ -18,52 +18,53 @@ use wire::{ForgetOne, Operation, ReplyBody, Request};
 pub enum Intent<'a> {
     /// It is answered at once.
     Reply(ReplyBody),
-    /// It is begun with a want.
+    /// It begins with a want.
     Want(Wanted<'a>),
-    /// It asks whether a file is open under a handle on its node, and needs no script.
+    /// It asks whether a file of its node is open under a handle, and needs no script.
     File { fh: u64 },
     /// It uses the folder that is open under a handle.
     Folder { fh: u64, usage: FolderUse },
-    /// It gives lookups of a node back, and is not answered.
+    /// It forgets lookups of a node, and is not answered.
     Forget(ForgetOne),
-    /// It gives lookups of several nodes back, pair after pair as `wire::split_pair` takes them, and is not answered.
+    /// It forgets lookups of several nodes, pair by pair as `wire::split_pair` returns them, and is not answered.
     ForgetAll { pairs: &'a [u8] },
-    /// INIT and DESTROY, which a session works off itself, and INTERRUPT, which is passed over.
+    /// INIT and DESTROY, which a session handles itself, and INTERRUPT, which is ignored.
     Nothing,
 }
 
-/// What is done with an open folder.
+/// What a request does with an open folder.
 #[derive(Clone, Copy, Debug, PartialEq, Eq)]
 pub enum FolderUse {
-    /// Its names are told, from the entry at `offset` (an index) on, in at most `size` bytes.
+    /// Returns its names from the entry at `offset`, which is an index, in at most `size` bytes.
     ReadNames { offset: u64, size: u32 },
     /// The same with the node and the attributes of each name, for which the table and the directory are asked.
     ReadEntries { offset: u64, size: u32 },
-    /// Its handle is given up.
+    /// Closes its handle.
     GiveUp,
-    /// It is brought to the disk.
+    /// Writes it to the disk.
     Sync,
 }
 
-/// The bit of SETATTR's `valid` that asks for a size (`FATTR_SIZE` of `fuse.h`).
+/// The bit of SETATTR's `valid` for the size (`FATTR_SIZE` of `fuse.h`).
 const SIZE: u32 = 1 << 3;
 
-/// The bit that says that the handle counts (`FATTR_FH`).
+/// The bit that says that the handle is valid (`FATTR_FH`).
 const HANDLE: u32 = 1 << 6;
 
-/// The bit that says that the owner of a lock counts (`FATTR_LOCKOWNER`). It is let through and not looked at.
+/// The bit for the lock owner (`FATTR_LOCKOWNER`). It is allowed and ignored.
 const LOCK_OWNER: u32 = 1 << 9;
 
-/// The lowest bit above that of the time of change (`FATTR_CTIME`): it stands for nothing that is served.
+/// The lowest bit above that of the time of change (`FATTR_CTIME`). From here on, bits may ask for what the server does
+/// not do.
 const UNKNOWN: u32 = 1 << 11;
 
-/// The flag of RENAME2 by which nothing is replaced (`RENAME_NOREPLACE` of `linux/fs.h`).
+/// The flag of RENAME2 that forbids replacing (`RENAME_NOREPLACE` of `linux/fs.h`).
 pub(crate) const NO_REPLACE: u32 = 1;
 
-/// The flag by which two names change places (`RENAME_EXCHANGE`).
+/// The flag of RENAME2 that exchanges two names (`RENAME_EXCHANGE`).
 pub(crate) const EXCHANGE: u32 = 2;
 
-/// Whether the operation names a reserved name.
+/// Whether the operation has a reserved name.
 fn names_reserved(operation: &Operation<'_>) -> bool
     ensures { result ≡ list_any (λ name. is_reserved name) (names_of operation.now) }
 {
@@ -98,7 +99,7 @@ fn names_reserved(operation: &Operation<'_>) -> bool
     }
 }
 
-/// The error where a name is reserved: LOOKUP finds nothing there, and nothing may be made, removed or moved there (own).
+/// The error for a reserved name: a LOOKUP finds nothing there, and nothing may be made, removed or moved there (own).
 fn reserved_errno(operation: &Operation<'_>) -> i32
     ensures { result ≡ reserved_errno operation.now }
 {
@@ -122,15 +123,15 @@ fn has_handle(valid: u32) -> bool
     valid & HANDLE != 0
 }
 
-/// Whether SETATTR asks for more than a size, a handle and the owner of a lock.
+/// Whether SETATTR asks for more than a size, a handle and a lock owner.
 fn sets_details(valid: u32) -> bool
     ensures { result ≡ sets_details valid }
 {
     valid & !(SIZE | HANDLE | LOCK_OWNER) != 0
 }
 
-/// Whether SETATTR asks for a field that is not set. Of the host's attributes all are but the time of change (`FATTR_CTIME`), which is passed over: the
-/// system sets it.
+/// Whether SETATTR asks for a field that is not set. With the host's attributes all fields are set except the time of
+/// change (`FATTR_CTIME`). That one is ignored: kernels ask for it along with others, and the system sets it itself.
 fn sets_other(settings: Settings, valid: u32) -> bool
     ensures { result ≡ sets_other settings valid }
 {
@@ -140,7 +141,8 @@ fn sets_other(settings: Settings, valid: u32) -> bool
     }
 }
 
-/// What a handle must be open for by which SETATTR is asked for.
+/// The access that a handle must have for a SETATTR. Without a size any will do, as for the system's own calls on a
+/// descriptor.
 fn needed_to_set(settings: Settings, valid: u32) -> Need
     ensures { result ≡ needed_to_set settings valid }
 {
@@ -150,14 +152,15 @@ fn needed_to_set(settings: Settings, valid: u32) -> Need
     }
 }
 
-/// It is refused at once.
+/// The request is refused at once.
 pub(crate) fn refused<'a>(errno: i32) -> Intent<'a>
     ensures { intent_in result ≡ refused errno }
 {
     Intent::Reply(ReplyBody::Failed { errno })
 }
 
-/// SETATTR of a field that is not set is EPERM (own). With a handle that must be open for what is set.
+/// A SETATTR. Setting a field that is not supported is EPERM (own). If there is a handle, it must be open for what is
+/// set.
 fn set_intent<'a>(settings: Settings, node: u64, valid: u32, fh: u64) -> Intent<'a>
     ensures { intent_in result ≡ set_intent settings node valid fh }
 {
@@ -173,7 +176,8 @@ fn set_intent<'a>(settings: Settings, node: u64, valid: u32, fh: u64) -> Intent<
     })
 }
 
-/// RENAME2 moves a name, replaces nothing, or exchanges two names: any other flags are EINVAL (own), so both at once are too.
+/// A RENAME2, which moves a name, moves it without replacing anything, or exchanges two names. Other flags are EINVAL
+/// (own), including both flags at once.
 fn rename_intent<'a>(
     parent: u64,
     name: &'a str,
@@ -202,7 +206,7 @@ fn rename_intent<'a>(
     }
 }
 
-/// What the operation needs, reserved names aside.
+/// What the operation needs, apart from reserved names.
 fn intended<'a>(settings: Settings, node: u64, operation: Operation<'a>) -> Intent<'a>
     ensures { intent_in result ≡ intended settings node operation.entry }
 {
@@ -225,6 +229,7 @@ fn intended<'a>(settings: Settings, node: u64, operation: Operation<'a>) -> Inte
         Operation::Sync { fh } => by_handle(node, fh, Need::Any),
         Operation::Flush { fh } => Intent::File { fh },
         Operation::Release { fh } => Intent::Want(Wanted::Release { number: node, fh }),
+        // An open file may be hidden instead. Whether a file or a folder is there is for the directory to say.
         Operation::Unlink { name } => Intent::Want(Wanted::Remove {
             parent,
             name,
@@ -267,11 +272,11 @@ fn intended<'a>(settings: Settings, node: u64, operation: Operation<'a>) -> Inte
     }
 }
 
-/// What the request needs. It takes no memory: names stay in the request's frame.
+/// What the request needs. It does not allocate: names stay in the request's frame.
 ///
-/// Refused at once are: a reserved name, before all else, by ENOENT for LOOKUP and EPERM for any other (own); SETATTR of a field that is not set
-/// by these settings, by EPERM (own); OPEN and CREATE whose flags name no access, by EINVAL; and RENAME2 whose flags are
-/// not 0, 1 or 2, by EINVAL (own).
+/// These are refused at once: a reserved name, before anything else, with ENOENT for LOOKUP and EPERM for any other
+/// (own); a SETATTR of a field that these settings do not set, with EPERM (own); an OPEN or CREATE whose flags have no
+/// valid access mode, with EINVAL; and a RENAME2 whose flags are not 0, 1 or 2, with EINVAL (own).
 pub fn intent_of<'a>(settings: Settings, request: &Request<'a>) -> Intent<'a>
     ensures { intent_in result ≡ intent settings request.now }
 {

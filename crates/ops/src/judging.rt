@@ -1,4 +1,4 @@
-//! What an answer of a directory counts as.
+//! Checking a directory's answers.
 
 ghost use Rattle.std.specs.Prelude.{◌≡◌};
 ghost use Rattle.backing.specs.Calls.{asked};
@@ -7,14 +7,15 @@ ghost use Rattle.ops.specs.Judged.{errno_in, fits, is_written, judged};
 use backing::{Answer, Call, Kind};
 use errno::EIO;
 
-/// Whether so many bytes of the piece may have been written: no more than there are, nor than a reply can tell.
+/// Whether that many bytes of the piece may have been written: no more than there are, and no more than a reply can
+/// say.
 fn is_written(piece: &[u8], count: usize) -> bool
     ensures { result ≡ is_written piece.now count }
 {
     count <= piece.len() && count < 1 << 32
 }
 
-/// Whether the answer is of its call's kind and shape, and no more than was asked for.
+/// Whether the answer has the kind and shape for its call, and no more than was asked for.
 fn fits(call: Call<'_>, answer: &Answer) -> bool
     ensures { result ≡ fits (asked call.entry) answer.now }
 {
@@ -42,7 +43,8 @@ fn fits(call: Call<'_>, answer: &Answer) -> bool
     }
 }
 
-/// The error that an answer tells: EIO (own) but for a fault with a number from 1 to 4,095, as a reply of libfuse may have.
+/// The error of an answer: its number if it is a fault with one from 1 to 4,095, which libfuse too allows in a reply,
+/// and otherwise EIO (own).
 pub fn errno_in(answer: &Answer) -> i32
     ensures { result ≡ errno_in answer.now }
 {
@@ -52,8 +54,8 @@ pub fn errno_in(answer: &Answer) -> i32
     }
 }
 
-/// What an answer counts as: one that is not right for its call is a fault, EIO (own), and so is an error number outside 1 to 4,095.
-/// It takes no memory.
+/// The answer after checking: one that does not fit its call becomes the fault EIO (own), and so does an error number
+/// outside 1 to 4,095. It does not allocate.
 pub fn judge(call: Call<'_>, answer: Answer) -> Answer
     ensures { result ≡ judged (asked call.entry) answer }
 {

@@ -1,7 +1,7 @@
-//! What each request asks of the table and of the directory, and what it is answered, as data.
+//! What each request asks of the table and of the directory, and what its answer is, as data.
 //!
-//! A request has an intent: a reply at once, or a want for the table. The ticket that the want brings has the paths for its script:
-//! the calls of the directory in turn, which end with an outcome for the table and with what the reply tells.
+//! A request has an intent: a reply at once, or a want for the table. The ticket for the want has the paths for its
+//! script: the calls of the directory in order, which end with an outcome for the table and a result for the reply.
 #![tactic(auto)]
 
 mod attributes;

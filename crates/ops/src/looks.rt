@@ -1,4 +1,4 @@
-//! Looks at one path after another.
+//! Looking at several paths, one after another.
 
 ghost use Rattle.std.specs.Prelude.{◌≡◌, ◌<◌, [], length, map, is_some, IfOk};
 ghost use Rattle.ops.specs.Ahead.{end_of};
@@ -14,11 +14,11 @@ use std::alloc::{AllocError, Global};
 use std::marker::Model;
 use table::FoundNames;
 
-/// What stands at each of some paths, or nothing. Contracts see a list.
+/// For each of several paths what was found there, if anything. Contracts see a list.
 #[derive(Drop)]
 pub struct Looked {
     found: Vec<Option<FoundFile>>,
-    /// Whether something was found, for each of them.
+    /// Whether something was found at each of them.
     there: Vec<bool>,
 }
 
@@ -34,7 +34,7 @@ impl Model for Looked {
 }
 
 impl Looked {
-    /// For each path whether something stands there, and what. It takes no memory.
+    /// Whether something was found at each path, and what. It does not allocate.
     pub fn into_parts(self) -> (FoundNames, Vec<Option<FoundFile>>)
         ensures there { result.0 ≡ map (λ found. is_some found) self }
         ensures found { result.1.items ≡ self }
@@ -44,7 +44,7 @@ impl Looked {
     }
 }
 
-/// Looks at one path after another: those that are left, and what was found at those before them.
+/// A Stat of each of several paths: the paths that are left, and what was found at those before them.
 #[derive(Drop)]
 pub struct Looks<'a> {
     left: &'a [Path],
@@ -65,7 +65,7 @@ impl<'a> Model for Looks<'a> {
         × (length l.there.items + length l.left.now ≤ vec_capacity l.there) };
 }
 
-/// What is told of an answer: a fault is nothing.
+/// What an answer says was found. A fault means nothing, so a name that cannot be looked up is left out.
 fn found_in(answer: &Answer) -> Option<FoundFile>
     ensures { result ≡ found_in answer.now }
 {
@@ -84,7 +84,7 @@ fn found_in(answer: &Answer) -> Option<FoundFile>
 }
 
 impl<'a> Looks<'a> {
-    /// Looks at these paths, none of which has been looked at.
+    /// Starts with these paths. All memory is allocated here, so that nothing can be refused later.
     pub fn new(alloc: Global, paths: &'a [Path]) -> Result<Looks<'a>, AllocError>
         ensures { IfOk result (λ looks. looks ≡ record { left = paths.now; found = [] }) }
     {
@@ -97,7 +97,7 @@ impl<'a> Looks<'a> {
         })
     }
 
-    /// The next look, if a path is left.
+    /// The next Stat, if a path is left.
     pub fn next(&self) -> Option<Call<'_>>
         ensures { AsksNext result (next_of (plan_looking self.now)) }
     {
@@ -107,7 +107,7 @@ impl<'a> Looks<'a> {
         }
     }
 
-    /// Takes the answer to the next look. It takes no memory.
+    /// Takes the answer to the next Stat. It does not allocate.
     pub fn feed(&mut self, answer: Answer)
         ensures { self.new ≡ looked_on self.old.left self.old.found answer }
     {
@@ -122,7 +122,7 @@ impl<'a> Looks<'a> {
         }
     }
 
-    /// What was found, once no path is left.
+    /// What was found, after the last path.
     pub fn into_result(self) -> ScriptResult
         ensures { (end : End) → plan_looking self.entry ≡ Over end → end_of result ≡ end }
     {

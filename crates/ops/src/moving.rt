@@ -1,4 +1,4 @@
-//! The scripts of RENAME and RENAME2. A move that may replace something hides a file that is open and stands at its target.
+//! The scripts of RENAME and RENAME2. A move that may replace something hides an open file at its target.
 
 ghost use Rattle.std.specs.Prelude.{◌≡◌, ◌≤◌};
 ghost use Rattle.backing.specs.Calls.{AskRename, AskStat};
@@ -17,12 +17,13 @@ use errno::ENOTDIR;
 use paths::Path;
 use table::Ticket;
 
-/// The script of a RENAME, from the first path of its ticket to the second.
+/// The script of a RENAME from the first path of its ticket to the second.
 pub(crate) fn start_rename(ticket: &Ticket) -> Script<'_>
     ensures { plan_ahead result ≡ at_paths ticket.now.paths (λ s t candidates. rename ticket.now.same ticket.now.hide s t candidates) }
 {
     let (change, ending) = match ticket.paths() {
         [path, _, ..] if ticket.same() => (
+            // A move of a path to itself changes nothing, but it must fail if nothing is there.
             None,
             LastCall::Look {
                 path,
@@ -36,7 +37,7 @@ pub(crate) fn start_rename(ticket: &Ticket) -> Script<'_>
     Script { change, ending }
 }
 
-/// The script of a RENAME2, by its flags.
+/// The script of a RENAME2 with these flags.
 pub(crate) fn start_rename_by(flags: u32, ticket: &Ticket) -> Script<'_>
     ensures { plan_ahead result ≡ at_paths ticket.now.paths (λ s t candidates. rename_by flags ticket.now.same ticket.now.hide s t candidates) }
 {
@@ -51,7 +52,8 @@ pub(crate) fn start_rename_by(flags: u32, ticket: &Ticket) -> Script<'_>
     }
 }
 
-/// The script of a move that replaces nothing. A name is not free for itself: something stands there, and that is EEXIST.
+/// The script of a move that replaces nothing. If source and target are the same path and something is there, that is
+/// EEXIST.
 fn start_rename_new(ticket: &Ticket) -> Script<'_>
     ensures { plan_ahead result ≡ at_paths ticket.now.paths (λ s t candidates. rename_new ticket.now.same s t) }
 {
@@ -87,7 +89,8 @@ fn start_exchange(ticket: &Ticket) -> Script<'_>
     Script { change, ending }
 }
 
-/// What is still to do after the answer to the look at the source: a folder ends the script, since it takes the place of no file.
+/// What is left to do after the answer to the Stat of the source. A folder cannot replace a file, so that is ENOTDIR,
+/// as for the move alone, and it is found out before anything is hidden.
 pub(crate) fn replace_on<'a>(
     from: &'a Path,
     to: &'a Path,
@@ -117,7 +120,7 @@ pub(crate) fn replace_on<'a>(
     LastCall::Over(ScriptResult::Error { errno })
 }
 
-/// What is told of the move to the place of a file that was moved to that candidate before.
+/// The result of the second move, after a file was moved to that candidate. If it fails, the first move is not undone.
 pub(crate) fn moved(from: &Path, to: &Path, candidate: u8, answer: Answer) -> ScriptResult
     ensures { Over (end_of result) ≡ if_moved candidate (judged (AskRename from.now to.now) answer) }
 {

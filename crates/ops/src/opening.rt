@@ -1,4 +1,4 @@
-//! What requests need that open a file, or use one that is open.
+//! What requests need that open a file, or use an open one.
 
 ghost use Rattle.std.specs.Prelude.{◌≡◌};
 ghost use Rattle.ops.specs.Intents.{access_of, by_handle, create_intent, intent_in, open_intent};
@@ -9,10 +9,10 @@ use errno::EINVAL;
 use table_files::{Access, Need};
 use table_requests::Handle;
 
-/// The bits of an open's flags that say for what it is (`O_ACCMODE` of `fcntl.h`).
+/// The bits of an open's flags for the access mode (`O_ACCMODE` of `fcntl.h`).
 const ACCESS_MODE: u32 = 3;
 
-/// For what a file is to be opened, by the flags of OPEN and CREATE; the other bits are not looked at.
+/// The access in the flags of OPEN and CREATE; the other bits are ignored.
 fn access_of(flags: u32) -> Option<Access>
     ensures { result ≡ access_of flags }
 {
@@ -24,7 +24,7 @@ fn access_of(flags: u32) -> Option<Access>
     }
 }
 
-/// OPEN. Flags that name no access are EINVAL.
+/// OPEN. Flags without a valid access mode are EINVAL.
 pub(crate) fn open_intent<'a>(node: u64, flags: u32) -> Intent<'a>
     ensures { intent_in result ≡ open_intent node (access_of flags) }
 {
@@ -37,7 +37,7 @@ pub(crate) fn open_intent<'a>(node: u64, flags: u32) -> Intent<'a>
     }
 }
 
-/// CREATE. Flags that name no access are EINVAL.
+/// CREATE. Flags without a valid access mode are EINVAL.
 pub(crate) fn create_intent<'a>(parent: u64, name: &'a str, flags: u32) -> Intent<'a>
     ensures { intent_in result ≡ create_intent parent name.now (access_of flags) }
 {
@@ -51,7 +51,7 @@ pub(crate) fn create_intent<'a>(parent: u64, name: &'a str, flags: u32) -> Inten
     }
 }
 
-/// It is about the node, by the handle of a file that is open on it.
+/// The request is about the node, through the handle of an open file of it.
 pub(crate) fn by_handle<'a>(node: u64, fh: u64, need: Need) -> Intent<'a>
     ensures { intent_in result ≡ by_handle node fh need }
 {

@@ -1,4 +1,4 @@
-//! What a SETATTR sets, and what a file or a folder is made with.
+//! What a SETATTR sets, and the permission bits of a new file or folder.
 
 ghost use Rattle.std.specs.Prelude.{◌≡◌, ◌<◌, ◌==◌};
 ghost use Rattle.std.specs.Int.{bit_at};
@@ -8,7 +8,7 @@ use backing::{NewTime, Time};
 use terms::Settings;
 use wire::NewAttributes;
 
-/// What is set of a node, each part if it is asked for.
+/// The parts of a node's attributes that are to be set.
 #[derive(Clone, Copy, Debug, PartialEq, Eq)]
 pub struct NewParts {
     /// The lowest twelve bits of a mode.
@@ -21,7 +21,7 @@ pub struct NewParts {
     pub modified: Option<NewTime>,
 }
 
-/// The bits of SETATTR's `valid`, counted from 0 (`FATTR_MODE`, `FATTR_UID` .. of `fuse.h`).
+/// The bits of SETATTR's `valid`, counted from 0 (`FATTR_MODE`, `FATTR_UID` and so on of `fuse.h`).
 const MODE: u32 = 0;
 
 const UID: u32 = 1;
@@ -38,7 +38,7 @@ const ACCESSED_NOW: u32 = 7;
 
 const MODIFIED_NOW: u32 = 8;
 
-/// The bits of a mode that are permissions, with those of `setuid`, `setgid` and the sticky bit.
+/// The permission bits of a mode, with `setuid`, `setgid` and the sticky bit.
 const PERMISSIONS: u32 = 0o7777;
 
 /// Whether the bit is set.
@@ -49,7 +49,7 @@ fn is_set(valid: u32, bit: u32) -> bool
     valid & (1 << bit) != 0
 }
 
-/// The value, where its bit is set.
+/// The value, if its bit is set.
 fn counted<T: Copy>(valid: u32, bit: u32, value: T) -> Option<T>
     requires { bit < 32 }
     ensures { result ≡ counted valid bit value }
@@ -61,7 +61,7 @@ fn counted<T: Copy>(valid: u32, bit: u32, value: T) -> Option<T>
     }
 }
 
-/// The present, where its bit is set, else the time, where its own is.
+/// The current time if its bit is set, or else the given time if the bit for that is set.
 fn new_time(valid: u32, bit: u32, now_bit: u32, time: wire::Time) -> Option<NewTime>
     requires bit { bit < 32 }
     requires now_bit { now_bit < 32 }
@@ -73,7 +73,7 @@ fn new_time(valid: u32, bit: u32, now_bit: u32, time: wire::Time) -> Option<NewT
     counted(valid, bit, NewTime::At(time_at(time)))
 }
 
-/// A time of a request, as a directory is told it.
+/// A time of a request, as the directory takes it.
 fn time_at(time: wire::Time) -> Time
     ensures { result ≡ time_at time }
 {
@@ -104,13 +104,14 @@ pub(crate) fn parts_of(valid: u32, size: u64, new: NewAttributes) -> NewParts
     }
 }
 
-/// What a file or a folder is made with that a request asks for: where attributes are the host's, the permission bits of the mode that are not in
-/// the umask. Else the folder that is served decides.
+/// The permission bits of a new file or folder: with the host's attributes those of the requested mode without the
+/// umask, and otherwise none, so that the directory decides.
 pub(crate) fn made_with(settings: Settings, mode: u32, umask: u32) -> Option<u32>
     ensures { result ≡ made_with settings mode umask }
 {
     match settings {
         Settings::Fixed { .. } => None,
+        // The umask is the client's: the mask of the server's process is not applied.
         Settings::Host => Some(permissions_of(mode) & !umask),
     }
 }

@@ -24,7 +24,7 @@ fn first_given(answered: &Answered) -> Option<Given>
     }
 }
 
-/// The entry of what was found and given.
+/// The entry for what was found and given.
 pub(crate) fn entry_of(settings: Settings, found: FoundFile, given: Given) -> Entry
     ensures { result ≡ entry_of settings found given }
 {
@@ -35,7 +35,7 @@ pub(crate) fn entry_of(settings: Settings, found: FoundFile, given: Given) -> En
     }
 }
 
-/// The entry that was given, or EIO (own) where none was.
+/// The entry that was given, or EIO (own) if none was.
 fn entry_reply(settings: Settings, found: FoundFile, given: Option<Given>) -> ReplyBody
     ensures { result ≡ entry_reply settings found given }
 {
@@ -45,7 +45,7 @@ fn entry_reply(settings: Settings, found: FoundFile, given: Option<Given>) -> Re
     }
 }
 
-/// The entry and the handle of a file that was made and opened, or EIO (own) where either was not given.
+/// The entry and the handle of a file that was created and opened, or EIO (own) if either was not given.
 fn created_reply(
     settings: Settings,
     found: FoundFile,
@@ -63,7 +63,7 @@ fn created_reply(
     }
 }
 
-/// The handle, or the error where there is none.
+/// The handle, or the error if there is none.
 fn handle_reply(fh: Option<u64>, errno: i32) -> ReplyBody
     ensures { result ≡ handle_reply errno fh }
 {
@@ -73,14 +73,14 @@ fn handle_reply(fh: Option<u64>, errno: i32) -> ReplyBody
     }
 }
 
-/// The handle under which a listing was stored, or ENFILE (own) where it was not.
+/// The handle under which a listing was stored, or ENFILE (own) if it was not.
 pub fn opened_reply(put: Option<u64>) -> ReplyBody
     ensures { result ≡ opened_reply put }
 {
     handle_reply(put, ENFILE)
 }
 
-/// What FLUSH is answered, by the open file under its handle: it is done where that is of the node, else EBADF.
+/// The answer to a FLUSH, given the file open under its handle: success if that is of the node, otherwise EBADF.
 pub fn file_reply(node: u64, file: Option<OpenFile>) -> ReplyBody
     ensures { result ≡ file_reply node file }
 {
@@ -90,11 +90,12 @@ pub fn file_reply(node: u64, file: Option<OpenFile>) -> ReplyBody
     }
 }
 
-/// What a request about a node is answered, by what its script found, the handle under which its listing was stored, if it was, and
-/// what its table gave.
+/// The answer to a request about a node, given the result of its script, the handle under which its listing was stored,
+/// if any, and what the table gave.
 ///
-/// An error that its script found is told as it is, and a file that was kept is told as done. An entry or a handle that the table did not give is EIO (own), and a listing that
-/// was not stored ENFILE (own). It takes no memory: bytes that were read become the reply. A page is told by `entries_reply`.
+/// An error in the result is returned as it is, and a file that was kept counts as success. An entry or a handle that
+/// the table did not give is EIO (own), and a listing that was not stored is ENFILE (own). It does not allocate: bytes
+/// that were read become the reply. For a page there is `entries_reply`.
 pub fn reply_to(
     settings: Settings,
     node: u64,

@@ -1,5 +1,5 @@
-//! The calls of one request: at most one that changes something, and then at most one whose answer the reply tells, or one at each name
-//! of a page. A move that hides changes two names, one after the other.
+//! The calls of one request: at most one that changes something, and then at most one whose answer the reply needs, or
+//! one for each name of a page. A move that hides changes two names, one after the other.
 
 ghost use Rattle.std.specs.Prelude.{◌≡◌, ◌<◌, [], IfOk, OnErr};
 ghost use Rattle.ops.specs.Ahead.{calls_left, end_of, plan_ahead, plan_ending, told_of, unless, LooksAtEach};
@@ -25,69 +25,71 @@ use wire::Operation;
 /// How a script ends.
 #[derive(Drop)]
 pub enum LastCall<'a> {
-    /// It asks what stands at the path, and tells that of it.
+    /// A Stat of the path, whose answer is reported.
     Look {
         path: &'a Path,
         tells: ReplyKind,
     },
-    /// It asks for the names in the folder at the path.
+    /// The names in the folder at the path.
     List {
         path: &'a Path,
     },
-    /// It asks for bytes of the file at the path.
+    /// Reading bytes of the file at the path.
     Read {
         path: &'a Path,
         offset: u64,
         size: u32,
     },
-    /// It lays data over the file at the path, and tells how many bytes were written.
+    /// Writing data to the file at the path, and reporting how many bytes were written.
     Write {
         path: &'a Path,
         offset: u64,
         data: &'a [u8],
     },
-    /// It asks what stands at each of some paths, and tells that.
+    /// A Stat of each of several paths, whose answers are reported.
     Each(Looks<'a>),
-    /// It asks whether a file stands at the source, then hides the file at the target under one of these candidates, and then moves the
-    /// source there.
+    /// Checking that a file is at the source, then hiding the file at the target under one of these candidates, and
+    /// then moving the source to the target.
     Replace {
         from: &'a Path,
         to: &'a Path,
         left: &'a [Path],
     },
-    /// It looks for the first candidate where nothing stands, moves a file there, and then another to its place, if there is one.
+    /// Finding the first candidate at which nothing exists, moving a file there, and then another to its place, if
+    /// there is one.
     Hide(Hiding<'a>),
-    /// It sets one part of the attributes after another, and tells them all.
+    /// Setting one part of the attributes after another, and reporting them all.
     Set(Setting<'a>),
-    /// It moves the source to the target, the file of which was moved to the candidate of that index before.
+    /// Moving the source to the target, after the file there was moved to the candidate with this index.
     MoveAfter {
         from: &'a Path,
         to: &'a Path,
         candidate: u8,
     },
-    /// It removes the file at the path, and is done whatever comes of that.
+    /// Removing the file at the path, which counts as success whatever the answer is.
     Remove {
         path: &'a Path,
     },
-    /// It has nothing more to ask.
+    /// No more calls.
     Over(ScriptResult),
 }
 
-/// The script of a request that began: what is still to do.
+/// The script of a request that began: what is left to do.
 #[derive(Drop)]
 pub struct Script<'a> {
-    /// What is changed first.
+    /// The change to be made first.
     pub(crate) change: Option<Call<'a>>,
     pub(crate) ending: LastCall<'a>,
 }
 
-/// Nothing more is asked, and there is no more to say.
+/// No more calls, and success without a body.
 pub(crate) const DONE: LastCall<'static> = LastCall::Over(ScriptResult::Nothing);
 
-/// A ticket that has not the paths of its request, or a request that has no script.
+/// A ticket without the paths of its request, or a request without a script. No table makes such a ticket, but its type
+/// does not say so.
 pub(crate) const UNFIT: LastCall<'static> = LastCall::Over(ScriptResult::Error { errno: EIO });
 
-/// The error with which a script ends after the answer to its change, if it does.
+/// The error with which a script ends after the answer to its change, if it is one.
 pub(crate) fn refused(answer: &Answer) -> Option<i32>
     ensures { (rest : Plan) → if_done rest answer.now ≡ unless result rest }
 {
@@ -97,7 +99,7 @@ pub(crate) fn refused(answer: &Answer) -> Option<i32>
     }
 }
 
-/// What stands at the path is looked at, and told.
+/// A Stat of the path, whose answer is reported.
 fn look(path: &Path, tells: ReplyKind) -> LastCall<'_>
     ensures { plan_ending result ≡ look path.now (λ found. Over (told_of tells found)) }
 {
@@ -119,7 +121,7 @@ fn start_release(ticket: &Ticket) -> Script<'_>
     }
 }
 
-/// How the script of a READDIRPLUS ends, whose ticket has the path of its folder and then that of each name.
+/// The end of the script of a READDIRPLUS, whose ticket has the path of its folder and then that of each name.
 fn end_with_looks(alloc: Global, ticket: &Ticket) -> Result<LastCall<'_>, AllocError>
     ensures { IfOk result (λ ending. plan_ending ending ≡ at_names ticket.now.paths) }
 {
@@ -144,9 +146,10 @@ fn without_path<'a>(operation: Operation<'_>, ticket: &'a Ticket) -> Script<'a>
 }
 
 impl<'a> Script<'a> {
-    /// The script of a request that began with this ticket. Only that of a READDIRPLUS takes memory.
+    /// The script of a request that began with this ticket. Only that of a READDIRPLUS allocates.
     ///
-    /// A ticket that has not the paths of its request, and a request that has no script, has one that is over with EIO (own).
+    /// If the ticket does not have the paths of the request, or the request has no script, the result is a script that
+    /// ended with EIO (own).
     pub fn start(
         alloc: Global,
         settings: Settings,
@@ -206,7 +209,7 @@ impl<'a> Script<'a> {
         Ok(Script { change, ending })
     }
 
-    /// The next call, or none where the script is over.
+    /// The next call, or none if the script is over.
     pub fn next(&self) -> Option<Call<'_>>
         ensures { AsksNext result (next_of (plan_ahead self.now)) }
     {
@@ -236,9 +239,9 @@ impl<'a> Script<'a> {
 
     /// Takes the answer to the next call.
     ///
-    /// A fault ends the script with its error number, the directory's own; an answer that is not right for its call ends it with EIO (own). Of a
-    /// page either is a name where nothing stands, and the script goes on. ENOENT says that a candidate is free. The removal of a file that was
-    /// closed is done, whatever it is answered.
+    /// A fault ends the script with the directory's error number; an answer that does not fit its call ends it with EIO
+    /// (own). For a page either means that the name does not exist, and the script goes on. ENOENT means that a
+    /// candidate is free. Removing a file that was closed counts as success, whatever the answer is.
     pub fn feed(&mut self, answer: Answer)
         ensures plan { plan_ahead self.new ≡ after (plan_ahead self.old) answer }
         ensures fewer { 0 < calls_left self.old → calls_left self.new < calls_left self.old }
@@ -279,7 +282,7 @@ impl<'a> Script<'a> {
         self.ending = LastCall::Over(finding);
     }
 
-    /// What it has found, once it is over.
+    /// Its result, after it is over.
     pub fn into_result(self) -> ScriptResult
         ensures { (end : End) → plan_ahead self.entry ≡ Over end → end_of result ≡ end }
     {

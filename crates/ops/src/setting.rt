@@ -1,4 +1,4 @@
-//! How attributes are set: one call for each part that is asked for, and then a look.
+//! Setting attributes: one call for each part, and then a Stat.
 
 ghost use Rattle.std.specs.Prelude.{◌≡◌, ◌+◌, ◌<◌, IfNone, IfSome};
 ghost use Rattle.backing.specs.Calls.{asked};
@@ -13,7 +13,7 @@ use crate::telling::{ReplyKind, looked};
 use backing::{Answer, Call};
 use paths::Path;
 
-/// What is still to be set of what stands at a path: permission bits first, then the owner, the size, and the times.
+/// What is still to be set of what is at a path: permission bits first, then the owner, the size, and the times.
 #[derive(Clone, Copy, Drop)]
 pub struct Setting<'a> {
     pub path: &'a Path,
@@ -21,7 +21,7 @@ pub struct Setting<'a> {
 }
 
 impl<'a> Setting<'a> {
-    /// The first part as a call, and what is left then.
+    /// The call for the first part, and what is left after it.
     fn split(self) -> Option<(Call<'a>, Setting<'a>)>
         ensures some { IfSome result (λ split. plan_setting self.entry ≡ make (asked split.0) (plan_setting split.1)) }
         ensures fewer { IfSome result (λ split. calls_set self.entry.parts ≡ calls_set split.1.parts + 1) }
@@ -30,6 +30,8 @@ impl<'a> Setting<'a> {
     {
         let Setting { path, parts } = self;
         let mut left = parts;
+        // The mode comes before the owner, so that a change of owner clears the setuid and setgid bits of a file, as in
+        // the system. The times come after the size, whose change would set them.
         let call = if let Some(permissions) = parts.permissions {
             left.permissions = None;
             Call::SetPermissions { path, permissions }
@@ -70,7 +72,7 @@ impl<'a> Setting<'a> {
         }
     }
 
-    /// What is still to do after the answer to the next call.
+    /// What is left to do after the answer to the next call.
     pub fn on(self, answer: Answer) -> LastCall<'a>
         ensures plan { plan_ending result ≡ after (plan_setting self.entry) answer }
         ensures fewer { calls_ending result < calls_set self.entry.parts }

@@ -1,4 +1,4 @@
-//! What is told of the answer with which a script ends.
+//! The results of scripts, from the answer to their last call.
 
 ghost use Rattle.std.specs.Prelude.{◌≡◌};
 ghost use Rattle.backing.specs.Calls.{AskRead, AskRemove, AskWrite};
@@ -12,21 +12,21 @@ use backing::{Answer, Call, Kind};
 use errno::{EEXIST, EISDIR};
 use paths::Path;
 
-/// What is told of what stands at a path.
+/// What is reported about what is at a path.
 #[derive(Clone, Copy, Debug, PartialEq, Eq)]
 pub enum ReplyKind {
     Nothing,
-    /// What stands there is in the way: EEXIST.
+    /// Something is there, although nothing should be: EEXIST.
     Taken,
     Entry,
-    /// A file that was made is given and opened.
+    /// A file that was created is given and opened.
     NewFile,
     Attributes,
-    /// A file is opened; a folder is EISDIR.
+    /// A file is opened; for a folder it is EISDIR.
     Opening,
 }
 
-/// How an OPEN ends that found this.
+/// The result of an OPEN that found this.
 fn opening(kind: Kind) -> ScriptResult
     ensures { end_of result ≡ open_end kind }
 {
@@ -37,7 +37,7 @@ fn opening(kind: Kind) -> ScriptResult
 }
 
 impl ReplyKind {
-    /// What is told of what was found.
+    /// The result for what was found.
     fn of(self, found: FoundFile) -> ScriptResult
         ensures { end_of result ≡ told_of self found }
     {
@@ -52,7 +52,7 @@ impl ReplyKind {
     }
 }
 
-/// What is told of an answer to a look.
+/// The result of a Stat.
 pub(crate) fn looked(tells: ReplyKind, answer: &Answer) -> ScriptResult
     ensures { Over (end_of result) ≡ if_found (λ found. Over (told_of tells found)) answer.now }
 {
@@ -72,7 +72,7 @@ pub(crate) fn looked(tells: ReplyKind, answer: &Answer) -> ScriptResult
     }
 }
 
-/// What is told of an answer to a list.
+/// The result of a List.
 pub(crate) fn listed(answer: Answer) -> ScriptResult
     ensures { Over (end_of result) ≡ if_listed answer }
 {
@@ -84,7 +84,7 @@ pub(crate) fn listed(answer: Answer) -> ScriptResult
     }
 }
 
-/// What is told of an answer to a read.
+/// The result of a Read.
 pub(crate) fn read(path: &Path, offset: u64, size: u32, answer: Answer) -> ScriptResult
     ensures { Over (end_of result) ≡ if_read (judged (AskRead path.now offset size) answer) }
 {
@@ -96,7 +96,7 @@ pub(crate) fn read(path: &Path, offset: u64, size: u32, answer: Answer) -> Scrip
     }
 }
 
-/// What is told of an answer to a write.
+/// The result of a Write.
 pub(crate) fn written(path: &Path, offset: u64, piece: &[u8], answer: Answer) -> ScriptResult
     ensures { Over (end_of result) ≡ if_written (judged (AskWrite path.now offset piece.now) answer) }
 {
@@ -113,7 +113,7 @@ pub(crate) fn written(path: &Path, offset: u64, piece: &[u8], answer: Answer) ->
     }
 }
 
-/// What is told of an answer to the removal of a file that was closed: it is done, and where it failed the file is kept.
+/// The result of removing a file that was closed: success, and if it failed the file is kept.
 pub(crate) fn removed(path: &Path, answer: Answer) -> ScriptResult
     ensures { Over (end_of result) ≡ if_removed (judged (AskRemove path.now) answer) }
 {

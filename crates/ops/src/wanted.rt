@@ -1,4 +1,4 @@
-//! Wants whose names still lie in the frame of their request.
+//! Wants whose names are still in the frame of their request.
 
 ghost use Rattle.std.specs.Prelude.{◌≡◌, IfOk, OnErr};
 
@@ -7,10 +7,10 @@ use std::alloc::{AllocError, Global};
 use table_files::Access;
 use table_requests::{Handle, Want};
 
-/// What a request is begun with. Its names are slices of the request's frame.
+/// What a request begins with. Its names are slices of the request's frame.
 #[derive(Clone, Copy, Debug, PartialEq, Eq)]
 pub enum Wanted<'a> {
-    /// A node, and the handle of the open file that it is used by, if one is.
+    /// A node, and the handle of the open file through which it is used, if any.
     Node {
         number: u64,
         handle: Option<Handle>,
@@ -20,23 +20,23 @@ pub enum Wanted<'a> {
         parent: u64,
         name: &'a str,
     },
-    /// A name to be removed, whatever stands there.
+    /// A name to be removed, whatever is there.
     Remove {
         parent: u64,
         name: &'a str,
-        /// Whether a file that is open may be hidden instead.
+        /// Whether an open file may be hidden instead.
         may_hide: bool,
     },
-    /// A name to be moved to another, whatever stands at either.
+    /// A name to be moved to another, whatever is at either.
     Move {
         parent: u64,
         name: &'a str,
         new_parent: u64,
         new_name: &'a str,
-        /// Whether what stands at the other is kept.
+        /// Whether what is at the target is kept.
         keep: bool,
     },
-    /// Two names that change places, whatever stands at either.
+    /// Two names to be exchanged, whatever is at either.
     Exchange {
         parent: u64,
         name: &'a str,
@@ -53,7 +53,7 @@ pub enum Wanted<'a> {
         number: u64,
         fh: u64,
     },
-    /// A file to be made and opened.
+    /// A file to be created and opened.
     Create {
         parent: u64,
         name: &'a str,
@@ -64,7 +64,7 @@ pub enum Wanted<'a> {
 impl<'a> Wanted<'a> {
     ghost use Rattle.ops.specs.Intents.{want_of, HasName};
 
-    /// The same want with its own names, as the table keeps it. Without a name it takes no memory.
+    /// The same want with names of its own, as the table keeps it. Without names it does not allocate.
     pub fn own(self, alloc: Global) -> Result<Want, AllocError>
         ensures ok { IfOk result (λ want. want ≡ want_of self.entry) }
         ensures err { OnErr result (HasName self.entry) }

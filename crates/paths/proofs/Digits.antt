@@ -9,14 +9,14 @@ use Rattle.std.proofs.lemmas.Str.{IsUtf8-from_ascii}
 use Rattle.std.proofs.lemmas.Str.Ascii.{IsAscii-from_all}
 use Rattle.paths.specs.Hidden.{IsLawfulName, hex_digit, hex_digits, hidden_name}
 
--- what a digit below ten is, and one from ten on
+-- the digit of a value below ten, and of one from ten on
 low_digit : (d : ℕ) → d < 10 → hex_digit d ≡ 48 + d
 low_digit d small = cond-true _ (48 + d) (87 + d) (lt-ltb d 10 small)
 
 high_digit : (d : ℕ) → 10 ≤ d → hex_digit d ≡ 87 + d
 high_digit d large = cond-false _ (48 + d) (87 + d) (le-ltb d 10 large)
 
--- one digit tells its value
+-- a digit determines its value
 same_digit : (c d : ℕ) → c < 16 → d < 16 → hex_digit c ≡ hex_digit d → c ≡ d
 same_digit c d small less same = elim (cases_lt c 10) [
   | inl low ↦ elim (cases_lt d 10) [
@@ -29,7 +29,7 @@ same_digit c d small less same = elim (cases_lt c 10) [
   ]
 ]
 
--- a digit is ASCII, and no slash
+-- a digit is ASCII, and not a slash
 not_slash : (d : ℕ) → d < 16 → hex_digit d ≢ 47
 not_slash d small e = elim (cases_lt d 10) [
   | inl low ↦ absurd (omega (arith, e, low_digit d low))
@@ -61,7 +61,7 @@ module _ (P : ℕ → Type 0) (holds : (d : ℕ) → d < 16 → P (hex_digit d))
   all_digits zero n = All-nil P
   all_digits (suc k) n = All-push P (hex_digits k (n / 16)) (hex_digit (n % 16)) (all_digits k (n / 16)) (holds (n % 16) (below_base n))
 
--- as many digits as are asked for
+-- there are as many digits as were asked for
 length-hex_digits : (k n : ℕ) → length (hex_digits k n) ≡ k
 unfolding hex_digits
 length-hex_digits zero n = refl
@@ -75,7 +75,7 @@ abbrev rest_of : List ℕ → List ℕ
 rest_of [] = []
 rest_of (x ∷ xs) = xs
 
--- lists that end in one element each
+-- two lists that each end in one more element
 same_last : (xs ys : List ℕ) (x y : ℕ) → length xs ≡ length ys → xs ++ x ∷ [] ≡ ys ++ y ∷ [] → (xs ≡ ys) × (x ≡ y)
 same_last [] [] x y same e = (refl, ap first_of e)
 same_last [] (b ∷ ys) x y same e = absurd (omega (arith, same))
@@ -84,7 +84,7 @@ same_last (a ∷ xs) (b ∷ ys) x y same e =
     let rest = same_last xs ys x y (omega (arith, same)) (ap rest_of e) in
     (ap (λ (c : ℕ). c ∷ xs) (ap first_of e) ∙ ap (λ (cs : List ℕ). b ∷ cs) rest.0, rest.1)
 
--- the digits tell a number that has no more of them
+-- the digits determine a number that has no more of them
 pub same_number : (k m n : ℕ) → m < 16 ^ k → n < 16 ^ k → hex_digits k m ≡ hex_digits k n → m ≡ n
 unfolding hex_digits
 same_number zero m n small less e = omega arith
@@ -102,7 +102,7 @@ up_by n r = omega arith
 same_end : (n r : ℕ) → (n + r * 16) % 16 ≡ n % 16
 same_end n r = omega arith
 
--- higher digits are not spelt
+-- higher digits are left out
 more_digits : (k q n : ℕ) → hex_digits k (n + q * 16 ^ k) ≡ hex_digits k n
 unfolding hex_digits
 more_digits zero q n = refl
@@ -120,7 +120,7 @@ pub eight : (n : ℕ) → hex_digits 8 n ≡ hex_digit (n / 16 / 16 / 16 / 16 / 
 unfolding hex_digits
 eight n = refl
 
--- digits are a text
+-- digits are UTF-8
 pub text_of_digits : (k n : ℕ) → IsUtf8 (hex_digits k n)
 text_of_digits k n = IsUtf8-from_ascii (hex_digits k n) (IsAscii-from_all (hex_digits k n) (all_digits (λ b. b < 128) ascii_digit k n))
 
@@ -134,7 +134,7 @@ length-hidden_name number counter =
     let b = length-append (hex_digits 8 number) (hex_digits 8 counter) in
     omega (arith, a, b, length-hex_digits 8 number, length-hex_digits 8 counter)
 
--- what all hidden names are
+-- every hidden name is a lawful reserved name
 pub lawful : (number counter : ℕ) → IsLawfulName (hidden_name number counter)
 lawful number counter =
     let long = length-hidden_name number counter in
@@ -147,7 +147,7 @@ lawful number counter =
       reserved = refl;
     }
 
--- the parts of names that are equal
+-- from equal names, equal counters
 pub apart : (number c d : ℕ) → c < 2 ^ 32 → d < 2 ^ 32 → c ≢ d → hidden_name number c ≢ hidden_name number d
 apart number c d small less ne e =
     ne (same_number 8 c d (omega arith) (omega arith) (append_cancel_left (hex_digits 8 number) _ _ (append_cancel_left (codes ".fuse_hidden") _ _ e)))

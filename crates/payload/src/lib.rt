@@ -1,4 +1,4 @@
-//! Bytes that are carried behind room for a header, so that what is sent is built where it was read.
+//! Bytes stored behind room for a header, so that a reply can be built in the buffer that was read into.
 #![tactic(auto)]
 
 ghost use Rattle.std.specs.Prelude.{◌≡◌, ◌≢◌, ◌≤◌, ◌+◌, ◌++◌, IfErr, IfOk, drop, length};
@@ -8,11 +8,11 @@ use std::marker::Model;
 /// How much room the header of a reply takes (`fuse_out_header` of Linux's `fuse.h`).
 pub const HEADER_ROOM: usize = 16;
 
-/// Bytes, which may stand behind room for a header. Contracts see the bytes as a list.
+/// Bytes, possibly with room for a header before them. Contracts see the bytes as a list.
 #[derive(Debug, Drop)]
 pub struct Payload {
     buffer: Vec<u8>,
-    /// How much room stands before the bytes.
+    /// How many bytes of room are before the data.
     room: usize,
 }
 
@@ -36,14 +36,14 @@ fn write_front(bytes: &mut [u8], header: &[u8])
 }
 
 impl Payload {
-    /// The vector's bytes, with no room before them. It takes no memory.
+    /// The vector's bytes, with no room before them. It does not allocate.
     pub fn new(buffer: Vec<u8>) -> Payload
         ensures { result ≡ buffer.items }
     {
         Payload { buffer, room: 0 }
     }
 
-    /// The vector's bytes behind the first so many, which are room. It takes no memory.
+    /// The vector's bytes after the first `room`, which are room for a header. It does not allocate.
     pub fn behind(room: usize, buffer: Vec<u8>) -> Payload
         requires { room ≤ length buffer.items }
         ensures { result ≡ drop room buffer.items }
@@ -51,21 +51,22 @@ impl Payload {
         Payload { buffer, room }
     }
 
-    /// All of them.
+    /// All its bytes.
     pub fn as_slice(&self) -> &[u8]
         ensures { result.now ≡ self.now }
     {
         &self.buffer[self.room..]
     }
 
-    /// How many there are.
+    /// How many bytes it has.
     pub fn len(&self) -> usize
         ensures { result ≡ length self.now }
     {
         self.buffer.len() - self.room
     }
 
-    /// The header and then the bytes, none of which is copied, if there is just room for that header; else they come back.
+    /// The header followed by the bytes, which are not copied, if the room is exactly as long as the header; otherwise
+    /// the payload is returned.
     pub fn headed(self, header: &[u8]) -> Result<Vec<u8>, Payload>
         ensures ok { IfOk result (λ frame. frame.items ≡ header.now ++ self) }
         ensures err { IfErr result (λ same. same ≡ self) }

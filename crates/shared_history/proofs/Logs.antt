@@ -1,4 +1,4 @@
--- Beginnings of a log, and the entries of one index.
+-- Prefixes of a log, and the entries of one index.
 use Rattle.std.proofs.Common.{◌≡◌, ◌≢◌, ◌==◌, ℕ, Bool, true, false, List, [], ◌∷◌, ◌++◌, refl, ap, sym, ◌∙◌, append_assoc, eq-eqb, ne_eqb, ◌⊎◌, inl, inr, ⊎_elim}
 use mathlib.Core.List.{IsPrefix}
 use Rattle.shared_history.specs.Views.{own, own_if, tagged}
@@ -8,11 +8,11 @@ module _ {A : Type 0} where
   prefix_self [] = ([], refl)
   prefix_self (x ∷ xs) = (let r = prefix_self xs in r.0, ap (λ ys. x ∷ ys) (prefix_self xs).1)
 
-  -- what begins a log begins each longer one
+  -- a prefix of a log is a prefix of each longer one
   pub prefix_more : (xs ys more : List A) → IsPrefix xs ys → IsPrefix xs (ys ++ more)
   prefix_more xs ys more p = (p.0 ++ more, sym (append_assoc xs p.0 more) ∙ ap (λ (w : List A). w ++ more) p.1)
 
-  -- of two lists that begin a third, one begins the other
+  -- of two prefixes of a list, one is a prefix of the other
   pub one_begins : (xs ys zs : List A) → IsPrefix xs zs → IsPrefix ys zs → IsPrefix xs ys ⊎ IsPrefix ys xs
   one_begins [] ys zs p q = inl (ys, refl)
   one_begins (x ∷ xs) [] zs p q = inr (x ∷ xs, refl)
@@ -43,7 +43,7 @@ module _ {E : Type 0} where
   append-none [] = refl
   append-none (x ∷ xs) = ap (λ (w : List E). x ∷ w) (append-none xs)
 
-  -- the thread's own entries grow by what it adds, and those of others stay
+  -- the thread's own entries grow by what it adds, and those of others do not change
   pub own-mine : (i : ℕ) (log : List (ℕ × E)) (es mine : List E) → own i log ≡ mine → own i (log ++ tagged i es) ≡ mine ++ es
   own-mine i log es mine is = own-append i log (tagged i es) ∙ (ap (λ (w : List E). own i log ++ w) (own-tagged i es) ∙ ap (λ (w : List E). w ++ es) is)
 

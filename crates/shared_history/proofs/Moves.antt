@@ -106,7 +106,7 @@ module _ {E : Type 0} where
       } in
       (w, keeps, tt, next, (told, refl))
 
-  -- ---- they come together, and part
+  -- ---- they are brought together, and separated
 
   abbrev Stands : List (View E) → ℕ → View E → ℕ → ℕ → View E → Type 0
   Stands views id b other j u = ((j ≡ other) × (nobody ≡ u)) ⊎ (((j ≡ id) × (b ≡ u)) ⊎ ((j ≢ other) × ((j ≢ id) × (get_elem? views j ≡ some u))))
@@ -150,7 +150,7 @@ module _ {E : Type 0} where
         apart = λ j k u x ne e h. apart_met s.views id b other kept.apart b_apart j k u x ne (stands s.views id b other j u e) (stands s.views id b other k x h);
       }
 
-  -- ---- a view is cut in two
+  -- ---- a view is split in two
 
   abbrev Ends : List (View E) → View E → ℕ → View E → Type 0
   Ends l r j u = (get_elem? l j ≡ some u) ⊎ ((j ≡ length l) × (r ≡ u))
@@ -171,7 +171,7 @@ module _ {E : Type 0} where
   apart_end l r all mine j k u x ne (inr p) (inl q) = subst (λ (y : View E). Apart y x) p.1 (mine k x q)
   apart_end l r all mine j k u x ne (inr p) (inr q) = absurd (ne (p.0 ∙ sym q.0))
 
-  -- the cut keeps the rule where both halves fit, and are apart from each other and from all else
+  -- the split keeps the rule if both halves fit, and are distinct from each other and from all others
   cuts : (views : List (View E)) (id : ℕ) (v l r : View E) (log : List (ℕ × E)) (given : ℕ) → ((i : ℕ) → given ≤ i → own i log ≡ []) → ((j : ℕ) (u : View E) → j ≢ id → get_elem? views j ≡ some u → Fits log given u) → AllApart views → get_elem? views id ≡ some v
       → Fits log given l → Fits log given r → Apart r l
       → ((j : ℕ) (u : View E) → j ≢ id → get_elem? views j ≡ some u → Apart l u) → ((j : ℕ) (u : View E) → j ≢ id → get_elem? views j ≡ some u → Apart r u)
@@ -203,7 +203,7 @@ module _ {E : Type 0} where
       let a = kept.apart id j v u (λ same. ne (sym same)) at e in record { keeps = λ p q. absurd (off p); signs = λ p q. a.signs sg q } in
       cuts s.views id v l r kept.log kept.given kept.fresh (λ j u ne e. kept.fit j u e) kept.apart at lf rf rl la ra
 
-  -- a thread more has the next index: nothing in the log is its own
+  -- one more thread gets the next index: nothing in the log is its own
   pub enters : (id : ℕ) (v : View E) → v.keeps ≡ true → Splits {S = ℕ} (λ s. Kept s.views) id v (whole_log v.log (v.given + 1)) (thread_log v.given v.log [])
   enters id v ks s kept at =
       let f = kept.fit id v at in

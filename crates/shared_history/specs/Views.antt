@@ -1,4 +1,4 @@
--- What is known of a history: by one token the whole log, and by each thread a beginning of it, with what it did itself.
+-- What is known of a history: one token has the whole log, and each thread has a prefix of it and what it did itself.
 use Rattle.std.specs.Prelude.{ℕ, ◌<◌, ◌≤◌, ◌≡◌, ◌≢◌, ◌==◌, Bool, true, false, List, [], ◌∷◌, ◌++◌, map}
 use mathlib.Core.List.{IsPrefix}
 use mathlib.Core.Option.{some}
@@ -16,7 +16,7 @@ abbrev pub own : {E : Type 0} → ℕ → List (ℕ × E) → List E
 own by [] = []
 own by (x ∷ xs) = own_if (x.0 == by) x.1 (own by xs)
 
--- these entries, made by that index
+-- these entries, with that index
 abbrev pub tagged : {E : Type 0} → ℕ → List E → List (ℕ × E)
 tagged by es = map (λ e. (by, e)) es
 
@@ -42,14 +42,14 @@ module _ {E : Type 0} where
 
   -- ---- the rule
 
-  -- what one view says of the log
+  -- what one view says about the log
   pub record Fits (log : List (ℕ × E)) (given : ℕ) (v : View E) : Type 0 where
     pub whole : v.keeps ≡ true → (v.log ≡ log) × (v.given ≡ given)
     pub begins : v.signs ≡ true → IsPrefix v.seen log
     pub own_is : v.signs ≡ true → own v.by log ≡ v.mine
     pub below : v.signs ≡ true → v.by < given
 
-  -- one keeps at most, and one has each index at most
+  -- at most one view is the whole log, and at most one has a given index
   pub record Apart (v w : View E) : Type 0 where
     pub keeps : v.keeps ≡ true → w.keeps ≡ true → ⊥
     pub signs : v.signs ≡ true → w.signs ≡ true → v.by ≢ w.by
@@ -60,7 +60,7 @@ module _ {E : Type 0} where
   abbrev pub AllApart : List (View E) → Type 0
   AllApart views = (j k : ℕ) (v w : View E) → j ≢ k → get_elem? views j ≡ some v → get_elem? views k ≡ some w → Apart v w
 
-  -- there is one log, that all views fit. An index that was not given yet has no entry in it
+  -- there is one log, which fits all views, and no entry has an index that was not given out yet
   pub record Kept (views : List (View E)) : Type 0 where
     pub log : List (ℕ × E)
     pub given : ℕ
@@ -68,13 +68,14 @@ module _ {E : Type 0} where
     pub fit : AllFit log given views
     pub apart : AllApart views
 
-  -- of the index to be given next, and of those above it, there is no entry
+  -- no entry has the index to be given out next, or a higher one
   abbrev pub IsFresh : View E → Type 0
   IsFresh v = (i : ℕ) → v.given ≤ i → own i v.log ≡ []
 
-  -- ---- what a step tells
+  -- ---- the result of a step
 
-  -- entries were added to the whole log, under the thread's index. It has seen them all, and what it had seen before began the log
+  -- entries were added to the whole log, with the thread's index. The thread now knows the whole log, and what it knew
+  -- before is a prefix
   pub record Extends (es : List E) (v w : View E) : Type 0 where
     pub log : w.log ≡ v.log ++ tagged v.by es
     pub given : w.given ≡ v.given

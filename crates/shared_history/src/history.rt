@@ -1,4 +1,4 @@
-//! The history that threads share, the whole log under the lock, and what each thread has seen of it.
+//! The history that threads share, the whole log under the lock, and what each thread knows of it.
 
 ghost use Rattle.std.specs.Prelude.{◌≡◌, ◌+◌, ◌<◌, ◌++◌, ◌∷◌, ◌⊎◌, [], true};
 ghost use mathlib.Core.List.{IsPrefix};
@@ -10,7 +10,7 @@ use std::alloc::{AllocError, Global};
 use std::marker::{Brand, Model, PhantomData};
 use std::mem;
 
-/// Which history it is, and which logs are lawful. Each call of a program picks the first.
+/// Which history it is, and which logs are lawful. Each call of a program chooses the first.
 pub trait Naming<E> {
     ghost use Rattle.std.specs.Prelude.{ℕ, List};
     ghost use Rattle.atomic_table.specs.Seated.{TableId};
@@ -20,7 +20,7 @@ pub trait Naming<E> {
     ghost lawful: { List (ℕ × E) → Type 0 };
 }
 
-/// A history of nothing, which has no name yet.
+/// An empty history, which has no name yet.
 #[derive(Drop)]
 pub struct Opened<E> {
     table: Table<u64, View<E>, (), Grows, Global>,
@@ -49,7 +49,7 @@ impl<E, J: Naming<E>> Model for History<E, J> {
     ghost invariant = { λ h. (h.table.shared.table_id ≡ J.table) × (0 < h.table.shared.table_id.words) };
 }
 
-/// The whole of it, without which nothing is added. It lies under the lock.
+/// The whole log of the history, without which nothing can be added. It is kept under the lock.
 #[derive(Drop)]
 pub struct WholeLog<E, J: Naming<E>> {
     badge: Badge<View<E>>,
@@ -68,7 +68,8 @@ impl<E, J: Naming<E>> Model for WholeLog<E, J> {
     ghost invariant = { λ k. (k.badge.table_id ≡ J.table) × (k.badge.views ≡ view_in k.badge.views ∷ []) × (view_in k.badge.views ≡ whole_log (view_in k.badge.views).log (view_in k.badge.views).given) × J.lawful (view_in k.badge.views).log × IsFresh (view_in k.badge.views) };
 }
 
-/// What one thread has seen of it: a beginning, which is lawful, and in which the entries of its index are those that it made.
+/// What one thread knows of the history: a prefix of its log, which is lawful, and in which the entries with the
+/// thread's index are those that it made.
 #[derive(Drop)]
 pub struct ThreadLog<E, J: Naming<E>> {
     badge: Badge<View<E>>,
@@ -88,13 +89,13 @@ impl<E, J: Naming<E>> Model for ThreadLog<E, J> {
 }
 
 impl<E> Opened<E> {
-    /// A history of nothing.
+    /// An empty history.
     pub fn new(alloc: Global) -> Result<Opened<E>, AllocError> {
         let (table, seat) = Table::of_words(alloc, &[0], &())?;
         Ok(Opened { table, seat })
     }
 
-    /// The same under a name, with its whole log.
+    /// The history with a name, and its whole log.
     pub fn named<J: Naming<E>>(self) -> (History<E, J>, WholeLog<E, J>)
         requires name { self.table.shared.table_id ≡ J.table }
         requires lawful { J.lawful [] }
@@ -115,7 +116,7 @@ impl<E> Opened<E> {
     }
 }
 
-// The token of a badge, which is left blank.
+// Takes the token out of a badge, which becomes blank.
 fn taken_out<E>(badge: &mut Badge<View<E>>) -> Seat<u64, View<E>>
     requires { badge.old.views ≡ view_in badge.old.views ∷ [] }
     ensures table { result.table_id ≡ badge.old.table_id }
@@ -124,7 +125,7 @@ fn taken_out<E>(badge: &mut Badge<View<E>>) -> Seat<u64, View<E>>
     mem::replace(badge, Badge::blank()).into_seat::<u64>()
 }
 
-// The whole log and that of a thread come together.
+// Brings the whole log and that of a thread together.
 fn meet<E>(
     shared: &Shared<u64, View<E>, (), Grows>,
     seat: &mut Seat<u64, View<E>>,
@@ -140,7 +141,7 @@ fn meet<E>(
     shared.join_seat::<Meets>(seat, own);
 }
 
-// The step in which they add an entry.
+// The step in which the two add an entry.
 fn add<E, A: Added<E>>(
     shared: &Shared<u64, View<E>, (), Grows>,
     seat: &mut Seat<u64, View<E>>,
@@ -158,7 +159,7 @@ fn add<E, A: Added<E>>(
     shared.load::<Adds<A>>(seat, 0);
 }
 
-// The step in which they add nothing.
+// The step in which the two add nothing.
 fn look<E>(shared: &Shared<u64, View<E>, (), Grows>, seat: &mut Seat<u64, View<E>>)
     requires table { seat.old.table_id ≡ shared.now.table_id }
     requires words { 0 < shared.now.table_id.words }
@@ -170,7 +171,7 @@ fn look<E>(shared: &Shared<u64, View<E>, (), Grows>, seat: &mut Seat<u64, View<E
     shared.load::<Adds<Brand>>(seat, 0);
 }
 
-// They part again.
+// Separates the two again.
 fn part<E>(
     shared: &Shared<u64, View<E>, (), Grows>,
     seat: &mut Seat<u64, View<E>>,
@@ -185,7 +186,7 @@ fn part<E>(
     shared.split_seat::<Meets>(seat)
 }
 
-// A thread more is given the next index.
+// One more thread gets the next index.
 fn enter<E>(
     shared: &Shared<u64, View<E>, (), Grows>,
     seat: &mut Seat<u64, View<E>>,
@@ -201,7 +202,7 @@ fn enter<E>(
 }
 
 impl<E, J: Naming<E>> History<E, J> {
-    /// A thread more, with the next index. It has seen all that happened, and has done nothing.
+    /// One more thread, with the next index. It knows everything that happened, and has done nothing.
     pub fn enter(&self, whole_log: &mut WholeLog<E, J>) -> ThreadLog<E, J>
         ensures whole_log { (whole_log.new.log ≡ whole_log.old.log) × (whole_log.new.given ≡ whole_log.old.given + 1) }
         ensures thread { result ≡ thread_log whole_log.old.given whole_log.old.log [] }
@@ -215,7 +216,7 @@ impl<E, J: Naming<E>> History<E, J> {
         }
     }
 
-    /// Adds an entry to the history, under the thread's index.
+    /// Adds an entry to the history, with the thread's index.
     pub fn record(&self, whole_log: &mut WholeLog<E, J>, me: &mut ThreadLog<E, J>, entry: &E)
         requires lawful { J.lawful (whole_log.old.log ++ (me.old.by, entry.now) ∷ []) }
         ensures log { whole_log.new.log ≡ whole_log.old.log ++ (me.old.by, entry.now) ∷ [] }
@@ -232,7 +233,7 @@ impl<E, J: Naming<E>> History<E, J> {
         me.badge = own.into_badge();
     }
 
-    /// Sees the whole history, and adds nothing.
+    /// Makes the thread know the whole history, and adds nothing.
     pub fn observe(&self, whole_log: &mut WholeLog<E, J>, me: &mut ThreadLog<E, J>)
         ensures whole_log { whole_log.new ≡ whole_log.old }
         ensures thread { me.new ≡ thread_log me.old.by whole_log.old.log me.old.mine }
@@ -247,7 +248,7 @@ impl<E, J: Naming<E>> History<E, J> {
         me.badge = own.into_badge();
     }
 
-    /// Of what two threads have seen, one begins the other.
+    /// What one of two threads knows is a prefix of what the other knows.
     pub fn compare(
         &self,
         whole_log: &mut WholeLog<E, J>,
@@ -265,7 +266,8 @@ impl<E, J: Naming<E>> History<E, J> {
 }
 
 impl<E, J: Naming<E>> WholeLog<E, J> {
-    /// The whole log is lawful, and has nothing of an index that was not given yet: a call that does nothing.
+    /// For the prover: the whole log is lawful, and has no entry of an index that was not given out yet. It does
+    /// nothing.
     pub fn attest(&self)
         ensures lawful { J.lawful self.now.log }
         ensures fresh { IsFresh self.now }
@@ -275,7 +277,8 @@ impl<E, J: Naming<E>> WholeLog<E, J> {
 }
 
 impl<E, J: Naming<E>> ThreadLog<E, J> {
-    /// What was seen is lawful, and has of its index the entries that it made and no others: a call that does nothing.
+    /// For the prover: what the thread knows is lawful, and its entries with the thread's index are exactly those that
+    /// the thread made. It does nothing.
     pub fn attest(&self)
         ensures lawful { J.lawful self.now.seen }
         ensures own { own self.now.by self.now.seen ≡ self.now.mine }

@@ -1,11 +1,11 @@
-//! What the whole log of a history and that of a thread know of it, and the rule that ties them.
+//! What the whole log of a history and that of a thread know of it, and the rule that connects them.
 
 use atomic_table::{Join, Play, Split, TableRule};
 use std::collections::LinkedList;
 use std::marker::{Brand, PhantomData};
 
-// The whole log has all entries, and how many indices were given to threads. A thread knows its index, the part of the log that it
-// has seen, and what it did itself. No value of it is made.
+// The whole log has all entries, and how many indices were given to threads. A thread's log has its index, the prefix
+// of the whole log that it knows, and what the thread did itself. No value of this type is ever made.
 pub struct View<E> {
     pub keeps: bool,
     pub log: LinkedList<(u64, E)>,
@@ -16,7 +16,7 @@ pub struct View<E> {
     pub mine: LinkedList<E>,
 }
 
-/// The log only grows, by the whole log together with that of a thread of that index.
+/// The log only grows, and only through the whole log together with the log of the thread that adds.
 pub struct Grows;
 
 impl<E> TableRule<u64, View<E>, ()> for Grows {
@@ -28,7 +28,7 @@ impl<E> TableRule<u64, View<E>, ()> for Grows {
     ghost first = { λ _. whole_log [] 0 };
 }
 
-/// The whole log and that of a thread come together, and part again.
+/// The whole log and that of a thread are brought together, and separated again.
 pub struct Meets;
 
 impl<E> Join<View<E>> for Meets {
@@ -47,7 +47,7 @@ impl<E> Split<View<E>> for Meets {
     ghost right = { λ v. thread_log v.by v.seen v.mine };
 }
 
-/// A thread more is given the next index.
+/// One more thread gets the next index.
 pub struct Enters;
 
 impl<E> Split<View<E>> for Enters {
@@ -59,7 +59,7 @@ impl<E> Split<View<E>> for Enters {
     ghost right = { λ v. thread_log v.given v.log [] };
 }
 
-/// What is added. The call picks it.
+/// What is added. The call chooses it.
 pub trait Added<E> {
     ghost use Rattle.std.specs.Prelude.{List};
 
@@ -72,7 +72,7 @@ impl<E> Added<E> for Brand {
     ghost entries = { [] };
 }
 
-/// The step that adds.
+/// The step that adds an entry.
 pub struct Adds<A> {
     of: PhantomData<A>,
 }

@@ -1,4 +1,4 @@
--- The end of a period leaves the book, and what requests rest on.
+-- The end of a period does not affect the book, nor what requests rely on.
 use Rattle.std.proofs.Common.{ℕ, ◌≡◌, ◌⊎◌, inl, inr, refl, sym, ap, ◌∙◌, subst}
 use Rattle.ledger.specs.declared.shares.Totals.{Totals}
 use Rattle.ledger.specs.Shares.{Part, plus}
@@ -22,17 +22,17 @@ module _ (old new : State) where
     undisturbed = subst (λ (s : State). AreUndisturbed (world_of s).at (world_of s).files (world_of s).flights) (sym rest) whole.undisturbed;
   }
 
--- ---- a period that ends where it is due, or where there is no room
+-- ---- a period that ends when it is due, or when it has no room
 
 module _ (old new : World) {Why : Type 0} (ends : ((Why → ⊥) × (new ≡ old)) ⊎ (Why × ((fewer : ℕ) × ClosesPeriod old fewer new))) where
-  -- the totals of all periods stay
+  -- the totals of all periods do not change
   pub totals_renewed : totals_over new.postings ≡ totals_over old.postings
   totals_renewed = elim ends [
     | inl none ↦ ap (λ (w : World). totals_over w.postings) none.1
     | inr due ↦ period_totals old new due.1.0 due.1.1
   ]
 
-  -- and all but the ledger
+  -- nor does anything except the ledger
   pub renewed_is : new ≡ record old { postings = new.postings }
   renewed_is = elim ends [
     | inl none ↦ subst (λ (w : World). w ≡ record old { postings = w.postings }) (sym none.1) refl
@@ -42,14 +42,14 @@ module _ (old new : World) {Why : Type 0} (ends : ((Why → ⊥) × (new ≡ old
   pub flights_renewed : (id : ℕ) → new.flights id ≡ old.flights id
   flights_renewed id = ap (λ (w : World). w.flights id) renewed_is
 
--- where counts are bounded no period ends for want of room
+-- if counts are bounded, no period ends for lack of room
 pub bounded_stays : (old new : World) (n : ℕ) → old.limits.counts ≡ Bounded → MakesRoom old n new → new ≡ old
 bounded_stays old new n bounded room = elim room [
   | inl none ↦ none.1
   | inr short ↦ let bad : Bounded ≡ Free = sym bounded ∙ short.0.0 in cc
 ]
 
--- what is gained after it is gained in all
+-- what is gained afterwards is gained in all
 pub gains_renewed : (old mid new : World) (n : ℕ) (before after : Part) → MakesRoom old n mid → Gains mid before new after → GainsInAll old before new after
 gains_renewed old mid new n before after room gains =
     let all = gains_in_all mid new before after gains in

@@ -1,4 +1,4 @@
--- What is exported of a table shows it, and is lawful.
+-- The export of a table shows the table, and is lawful.
 use Rattle.std.proofs.Common.{ℕ, suc, zero, All, ◌+◌, ◌<◌, ◌≤◌, ◌≡◌, ◌≢◌, ◌==◌, ◌||◌, Bool, true, false, cond, List, [], ◌∷◌, ◌++◌, Option, Some, None, MatchOption, AllPairs, length, get_or, take, refl, sym, ap, ◌∙◌, subst, arith}
 use Rattle.std.specs.Prelude.{option_map}
 use Rattle.std.specs.List.{AllZip}
@@ -42,7 +42,7 @@ use Rattle.table_steps.specs.Keeping.{kept_by}
 use Rattle.table_steps.proofs.Lawful.{law_of}
 use Rattle.table_steps.specs.Kept.{IsKept, world_of}
 
--- a record more
+-- one more record
 pub zip_push : (fs : List RequestInFlight) (rs : List Record) (f : RequestInFlight) (r : Record) → AllZip IsCopyOf fs rs → IsCopyOf f r → AllZip IsCopyOf (fs ++ f ∷ []) (rs ++ r ∷ [])
 zip_push [] [] f r h one = (one, h)
 zip_push [] (s ∷ rs) f r h one = absurd h
@@ -59,7 +59,7 @@ mirrors [] (r ∷ rs) h = absurd h
 mirrors (f ∷ fs) [] h = absurd h
 mirrors (f ∷ fs) (r ∷ rs) h = ((h.0.id, h.0.pins), mirrors fs rs h.1)
 
--- by the first test that one of both lists meets
+-- a search of two lists whose elements agree on the test
 found_where : (f : RequestInFlight) (fs : List RequestInFlight) (r : Record) (rs : List Record) (id : ℕ) (b : Bool) → IsCopyOf f r
     → MatchOption (flight_in fs id) (record_in rs id ≡ None) (λ g. (q : Record) × (record_in rs id ≡ Some q) × IsCopyOf g q)
     → MatchOption (cond b (Some f) (flight_in fs id)) (cond b (Some r) (record_in rs id) ≡ None) (λ g. (q : Record) × (cond b (Some r) (record_in rs id) ≡ Some q) × IsCopyOf g q)
@@ -79,7 +79,7 @@ records_found (f ∷ fs) (r ∷ rs) id h =
 pub nodes_listed : (tree : Nodes) (last : ℕ) (xs : List Node) → ((n : ℕ) → IsAlive (at_in tree) n → n ≤ last) → ListsBelow (at_in tree) (last + 1) xs → node_at xs ≡ at_in tree
 nodes_listed tree last xs all lists = fun_ext (ListsBelow-all (at_in tree) (last + 1) xs (λ n alive. let le = all n alive in omega arith) lists)
 
--- a record at a place of the list, and the request that it shows
+-- a record at an index, and the request that it shows
 shown_at : (fs : List RequestInFlight) (rs : List Record) (i : ℕ) (d : Record) → AllZip IsCopyOf fs rs → i < length rs
     → (f : RequestInFlight) × (i < length fs) × ((e : RequestInFlight) → get_or fs i e ≡ f) × IsCopyOf f (get_or rs i d)
 shown_at [] [] i d zip within = absurd (omega arith)
@@ -88,12 +88,12 @@ shown_at (f ∷ fs) [] i d zip within = absurd zip
 shown_at (f ∷ fs) (r ∷ rs) zero d zip within = (f, omega arith, λ e. refl, zip.0)
 shown_at (f ∷ fs) (r ∷ rs) (suc i) d zip within = let it = shown_at fs rs i d zip.1 (omega arith) in (it.0, omega (arith, it.1), it.2, it.3)
 
--- who shows a working request has its work
+-- a record that shows a request in progress has its work
 working_of : (s : flight.Stage) → stage_of s ≡ Working → (work : Work) × (s ≡ flight_stage.Working work)
 working_of (flight_stage.Working work) is = (work, refl)
 working_of (flight_stage.Answered before opened) is = let never : Answered ≡ Working = is in cc
 
--- a request that is worked on, as the world shows it
+-- a request in progress, as the world shows it
 at_work : (flights : RequestsInFlight) (id : ℕ) (f : RequestInFlight) (work : Work) → flights id ≡ Some f → f.stage ≡ flight_stage.Working work → IsAtWork (λ k. option_map flight_of (flights k)) id (flight_of f) (work_of work)
 at_work flights id f work here working = record { here = ap (option_map flight_of) here; working = ap seen.stage_of working }
 
@@ -122,7 +122,7 @@ record_seen rs id (Some f) numbered (r, found, copy) = (
   },
 )
 
--- the request that a record at a place shows while it is worked on
+-- the request shown by the record at an index, if it is in progress
 record IsShown (flights : RequestsInFlight) (fs : List RequestInFlight) (i : ℕ) (r : Record) : Type 0 where
   flight : RequestInFlight
   work : Work
@@ -161,7 +161,7 @@ module _ (flights : RequestsInFlight) (fs : List RequestInFlight) (rs : List Rec
         (at_work flights a.flight.id a.flight a.work a.there a.stage) (at_work flights b.flight.id b.flight b.work b.there b.stage) other both;
   }
 
-  -- the paths that they were given are those of the requests
+  -- the paths recorded for them are those of the requests
   pub records_known : (l : Lookup) → AreHeld l (λ k. option_map flight_of (flights k)) → AreKnown l rs
   records_known l held i d within = record {
     leads = λ is.

@@ -1,4 +1,4 @@
--- What calls one after another leave in the ledger and in the share.
+-- What several calls add to the ledger and to the share, one after another.
 use Rattle.std.proofs.Common.{ℕ, ◌≡◌, List, [], ◌++◌, append_assoc, append-nil, length, drop, sym, ap, ◌∙◌}
 use Rattle.std.proofs.Math.Seq.{drop-append_seam, drop-length}
 use Rattle.ledger.specs.declared.postings.Posting.{Posting}
@@ -51,7 +51,7 @@ gains_in_all old new before after gains = record {
   share = gains.share;
 }
 
--- nothing was posted in all
+-- no postings in all
 pub gains_totals : (old new : World) (share : Part) → IsLawfulWorld new → totals_over new.postings ≡ totals_over old.postings → GainsInAll old share new share
 gains_totals old new share lawful same = record {
   lawful = lawful;
@@ -60,7 +60,7 @@ gains_totals old new share lawful same = record {
   share = ap (λ (t : Totals). record share { totals = t }) (sym (plus-nothing share.totals));
 }
 
--- as at the end of a period
+-- so it is at the end of a period
 pub gains_closed : (old new : World) (share : Part) (fewer : ℕ) → IsLawfulWorld new → ClosesPeriod old fewer new → GainsInAll old share new share
 gains_closed old new share fewer lawful closes = gains_totals old new share lawful (period_totals old new fewer closes)
 

@@ -1,4 +1,4 @@
--- Who holds a path: the requests in flight, in whatever order they stand, and the records that show them.
+-- The holders of a path: the requests in flight, in any order, and the records that show them.
 use Rattle.std.proofs.Common.{ℕ, ◌+◌, ◌<◌, ◌≡◌, ◌≢◌, suc, zero, Bool, true, false, cond, List, [], ◌∷◌, ◌++◌, Some, All, Contains, length, get_or, take, refl, sym, ap, ◌∙◌, subst, arith, inl, inr}
 use Rattle.std.specs.Prelude.{count_by}
 use Rattle.std.specs.List.{AllZip, remove}
@@ -30,12 +30,12 @@ use Rattle.table.specs.Copies.{IsCopyOf, held_of, exclusive_in_all, sharers_in}
 abbrev one_if : Bool → ℕ
 one_if b = cond b 1 0
 
--- an element of a list that is followed by another list's is another than the first
+-- a list that contains the elements of another one, without the first
 contains_cons : {A : Type 0} (x : A) (ys : List A) (y : A) → x ≢ y → Contains (x ∷ ys) y → Contains ys y
 contains_cons x ys y other (zero, within, is) = absurd (other is)
 contains_cons x ys y other (suc i, within, is) = (i, omega arith, is)
 
--- lists of one length, the first without a repetition and of elements of the second, have the same counts
+-- lists of the same length, the first without repetitions and with elements of the second, have the same counts
 same_counts : (test : RequestInFlight → Bool) (fs gs : List RequestInFlight) → HaveOwnIds fs → length fs ≡ length gs → ((k : ℕ) (d : RequestInFlight) → k < length fs → Contains gs (get_or fs k d)) → count_by test fs ≡ count_by test gs
 same_counts test [] [] apart long all = refl
 same_counts test [] (g ∷ gs) apart long all = absurd (omega arith)
@@ -50,7 +50,7 @@ same_counts test (f ∷ fs) gs apart long all =
     let first : one_if (test (get_or gs i f)) ≡ one_if (test f) = ap (λ (g : RequestInFlight). one_if (test g)) found.2 in
     omega (arith, later, first, sum_by-cons (λ (g : RequestInFlight). one_if (test g)) f fs, sum_by-remove (λ (g : RequestInFlight). one_if (test g)) gs i f found.1)
 
--- what is found by the same ids is the same
+-- if the same is found under the same ids, the counts are equal
 pub counts_same : (test : RequestInFlight → Bool) (fs : List RequestInFlight) (all : InFlight) → HaveOwnIds fs → flight_in fs ≡ (requests_of all).at → length fs ≡ (requests_of all).many → count_by test fs ≡ count_by test all.flights
 unfolding requests_of
 counts_same test fs all apart at many = same_counts test fs all.flights apart many (λ k d within.
@@ -89,7 +89,7 @@ unowned (flight_stage.Working work) hs path stored none = elim (cases_Bool (is_a
 ]
 unowned (flight_stage.Answered before opened) hs path stored none = refl
 
--- ---- all that is held, listed request after request
+-- ---- everything that is held, listed one request after another
 
 -- the paths that the request holds are stored
 pub record IsCovered (hs : List Hold) (f : RequestInFlight) : Type 0 where
@@ -109,7 +109,7 @@ covered_more old new fs i f within read shared exclusive before =
     let last : IsCovered new f = record { shared = shared.stored; exclusive = exclusive.stored } in
     subst (λ (gs : List RequestInFlight). AreCovered new gs) (sym (take_more fs i f within ∙ ap (λ (g : RequestInFlight). take i fs ++ g ∷ []) (sym read))) (All-push (IsCovered new) (take i fs) f kept last)
 
--- once all requests were listed, the numbers are those of all paths
+-- after all requests were listed, the numbers are those of all paths
 pub counts_all : (fs : List RequestInFlight) (all : InFlight) (hs : List Hold) → HaveOwnIds fs → flight_in fs ≡ (requests_of all).at → length fs ≡ (requests_of all).many
     → AreCovered hs fs → ListsHeld (sharers_in all.flights) (exclusive_in_all all.flights) hs → AreCounts (sharers_in all.flights) (exclusive_in_all all.flights) hs
 counts_all fs all hs apart at many covered lists = record {
@@ -121,7 +121,7 @@ counts_all fs all hs apart at many covered lists = record {
   );
 }
 
--- what a request holds is held by some
+-- what a request holds is held by some request
 pub shared_by_some : (fs : List RequestInFlight) (all : InFlight) (i : ℕ) (f : RequestInFlight) → HaveOwnIds fs → flight_in fs ≡ (requests_of all).at → length fs ≡ (requests_of all).many → i < length fs → f ≡ get_or fs i f
     → All (IsHeldBySome (sharers_in all.flights) (exclusive_in_all all.flights)) (held_of f.stage).shared
 shared_by_some fs all i f apart at many within read k d inside =
@@ -154,7 +154,7 @@ zip_counts test check same (f ∷ fs) (r ∷ rs) zip =
     let first : one_if (test r) ≡ one_if (check f) = ap one_if (same f r zip.0) in
     omega (arith, first, zip_counts test check same fs rs zip.1, sum_by-cons (λ (g : RequestInFlight). one_if (check g)) f fs, sum_by-cons (λ (q : Record). one_if (test q)) r rs)
 
--- the records of the requests hold what these hold
+-- the records of the requests hold what the requests hold
 pub sharers_same : (fs : List RequestInFlight) (rs : List Record) → AllZip IsCopyOf fs rs → sharers_of rs ≡ sharers_in fs
 sharers_same fs rs zip = fun_ext (λ path. zip_counts (λ (r : Record). shares r path) (λ (f : RequestInFlight). has_shared f.stage path) (λ f r h. shares_same f.stage f r path refl h) fs rs zip)
 

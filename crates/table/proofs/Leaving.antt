@@ -1,4 +1,4 @@
--- The nodes with a hidden mark, listed by rising number.
+-- The nodes with a hidden mark, sorted by number.
 use Rattle.std.proofs.Common.{ℕ, ◌+◌, ◌<◌, ◌≤◌, List, [], ◌∷◌, ◌++◌, Contains, sym, subst, inl, inr, arith}
 use Rattle.std.proofs.lemmas.Bool.{cases_eq, cases_lt}
 use Rattle.std.proofs.lemmas.List.Elements.{All-contains, All-push, Contains-push, Contains-push_cases, Contains-append_left}
@@ -11,7 +11,7 @@ use Rattle.table.specs.Leftovers.{AreLeftBelow, AreLeftovers, IsMarked}
 pub left_none : (at : Lookup) → AreLeftBelow at 0 []
 left_none at = record { numbers = []; below = λ k d less. absurd (omega (arith, less)); rising = λ i j d less within. absurd (omega (arith, within)); marked = λ n less. absurd (omega (arith, less)); leads = tt }
 
--- numbers that bear no mark are passed over
+-- numbers without a mark are skipped
 pub left_skip : (at : Lookup) (bound more : ℕ) (paths : List Names) → bound ≤ more → ((n : ℕ) → bound ≤ n → n < more → IsMarked at n → ⊥) → AreLeftBelow at bound paths → AreLeftBelow at more paths
 left_skip at bound more paths le none left = record {
   numbers = left.numbers;
@@ -24,7 +24,7 @@ left_skip at bound more paths le none left = record {
   leads = left.leads;
 }
 
--- one with a mark is listed
+-- a number with a mark is listed
 pub left_push : (at : Lookup) (n : ℕ) (paths : List Names) (path : Names) → IsMarked at n → IsPathOf at n path → AreLeftBelow at n paths → AreLeftBelow at (n + 1) (paths ++ path ∷ [])
 left_push at n paths path mark leads left = record {
   numbers = left.numbers ++ n ∷ [];
@@ -43,7 +43,7 @@ left_push at n paths path mark leads left = record {
   leads = zip_push (IsPathOf at) left.numbers paths n path left.leads leads;
 }
 
--- no node has a number above the last
+-- no node has a number above the last one
 pub left_all : (at : Lookup) (last : ℕ) (paths : List Names) → ((n : ℕ) → IsAlive at n → n ≤ last) → AreLeftBelow at (last + 1) paths → AreLeftovers at paths
 left_all at last paths none left = record {
   numbers = left.numbers;

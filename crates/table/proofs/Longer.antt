@@ -1,4 +1,4 @@
--- A ledger that grew has what it had and what it gained.
+-- A ledger after some more postings.
 use Rattle.std.proofs.Common.{ℕ, ◌≤◌, ◌≡◌, List, ◌++◌, length, length-append, take, drop, ap, ◌∙◌, sym, arith}
 use Rattle.std.proofs.Math.Seq.{take-append_seam, drop-append_seam}
 use Rattle.ledger.specs.declared.postings.Posting.{Posting}

@@ -1,4 +1,4 @@
--- How far the last period has come is one thing.
+-- How far the last period is, is determined.
 use Rattle.std.proofs.Common.{ℕ, ◌+◌, ◌≡◌, length, subst, sym, ◌∙◌, arith}
 use Rattle.collections.proofs.Once.{sum_once}
 use Rattle.table_steps.specs.World.{World}

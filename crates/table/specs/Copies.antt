@@ -1,4 +1,4 @@
--- What a copy shows of a request as it is kept.
+-- A request as it is stored, and its copy.
 use Rattle.std.specs.Prelude.{ℕ, ◌≡◌, [], List, count_by}
 use Rattle.paths.specs.Prefixes.{Names}
 use Rattle.holds.specs.declared.held.Held.{Held}
@@ -14,20 +14,20 @@ abbrev pub stage_of : kept.Stage → ImageStage
 stage_of (kept_stage.Working work) = Working
 stage_of (kept_stage.Answered before opened) = Answered
 
--- what the request holds: nothing once its work has ended
+-- what the request holds: nothing after its work has ended
 abbrev pub held_of : kept.Stage → Held
 held_of (kept_stage.Working work) = work.held
 held_of (kept_stage.Answered before opened) = record { given = []; shared = []; exclusive = [] }
 
--- how many of the requests that are worked on share the path
+-- how many requests in progress share the path
 abbrev pub sharers_in : List RequestInFlight → Names → ℕ
 sharers_in fs path = count_by (λ (f : RequestInFlight). has_shared f.stage path) fs
 
--- how many of them hold it exclusively
+-- how many requests in progress hold it exclusively
 abbrev pub exclusive_in_all : List RequestInFlight → Names → ℕ
 exclusive_in_all fs path = count_by (λ (f : RequestInFlight). has_exclusive f.stage path) fs
 
--- the record copies the request
+-- the record is a copy of the request
 pub record IsCopyOf (f : RequestInFlight) (r : Record) : Type 0 where
   pub id : r.id ≡ f.id
   pub unique : r.unique ≡ f.unique

@@ -1,4 +1,4 @@
--- What an image shows of a table.
+-- The image of a table.
 use Rattle.std.specs.Prelude.{ℕ, ◌≡◌, ◌==◌, ◌≢◌, [], Option, Some, None, List, MatchOption, AllPairs, find}
 use Rattle.table_files.specs.OpenEntry.{file_in}
 use Rattle.holds.specs.declared.held.Held.{Held}
@@ -14,12 +14,12 @@ abbrev pub stage_shown : Stage → Shown
 stage_shown (Working work) = shown.Working
 stage_shown (Answered before opened) = shown.Answered
 
--- what the request holds: nothing once its work has ended
+-- what the request holds: nothing after its work has ended
 abbrev pub held_by : Stage → Held
 held_by (Working work) = work.held
 held_by (Answered before opened) = record { given = []; shared = []; exclusive = [] }
 
--- the record shows the request of that id
+-- the record shows the request with that id
 pub record IsRecordOf (id : ℕ) (f : RequestInFlight) (r : Record) : Type 0 where
   pub id_is : r.id ≡ id
   pub unique : r.unique ≡ f.unique
@@ -27,13 +27,13 @@ pub record IsRecordOf (id : ℕ) (f : RequestInFlight) (r : Record) : Type 0 whe
   pub pins : r.pins ≡ f.pins
   pub held : r.held ≡ held_by f.stage
 
--- the record of that id
+-- the record with that id
 abbrev pub record_in : List Record → ℕ → Option Record
 record_in rs id = find (λ (r : Record). r.id == id) rs
 
--- the nodes by their numbers, each once; the whole ledger; the requests by their ids, each once; and each path that
--- they hold, once, with how many share it and how many hold it exclusively; the open files by their handles, each once; the counter of
--- the next hidden name, and the last handle that was given
+-- the nodes by their numbers, each once; the whole ledger; the requests by their ids, each once; each path that they
+-- hold, once, with how many share it and how many hold it exclusively; the open files by their handles, each once; the
+-- counter of the next hidden name, and the last handle that was used
 pub record Exports (w : World) (image : Image) : Type 0 where
   pub distinct : IsDistinct image.nodes
   pub nodes : node_at image.nodes ≡ w.at

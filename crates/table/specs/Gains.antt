@@ -1,4 +1,4 @@
--- What calls leave in the ledger and in the share that is passed to them.
+-- What calls add to the ledger and to the share that is passed to them.
 use Rattle.std.specs.Prelude.{◌≡◌}
 use Rattle.ledger.specs.declared.shares.Totals.{Totals}
 use Rattle.ledger.specs.Periods.{continued}
@@ -7,13 +7,13 @@ use Rattle.ledger.specs.Sums.{totals_of, totals_over}
 use Rattle.table_steps.specs.Steps.{gained}
 use Rattle.table_steps.specs.World.{IsLawfulWorld, World}
 
--- the table is lawful after them, its ledger gained some postings in the same period, and the share their totals
+-- afterwards the table is lawful, its ledger has some more postings in the same period, and the share has their totals
 pub record Gains (old : World) (before : Part) (new : World) (after : Part) : Type 0 where
   pub lawful : IsLawfulWorld new
   pub grows : new.postings ≡ continued old.postings (gained old new)
   pub share : after ≡ record before { totals = plus before.totals (totals_of (gained old new)) }
 
--- the table is lawful after them, and the ledger's totals of all periods grew by as much as the share's
+-- afterwards the table is lawful, and the ledger's totals of all periods have grown by as much as the share's
 pub record GainsInAll (old : World) (before : Part) (new : World) (after : Part) : Type 0 where
   pub lawful : IsLawfulWorld new
   pub more : Totals

@@ -21,7 +21,7 @@ use table_requests::{RequestInFlight, RequestsInFlight};
 use table_steps::State;
 use tree::{Key, Node, Place, Tree};
 
-/// The same place once more.
+/// A copy of the place.
 fn copy_place(place: &Place) -> Result<Place, AllocError>
     ensures { IfOk result (λ p. p ≡ place.now) }
 {
@@ -38,7 +38,7 @@ fn copy_place(place: &Place) -> Result<Place, AllocError>
     }
 }
 
-/// The same node once more.
+/// A copy of the node.
 fn copy_node(node: &Node) -> Result<Node, AllocError>
     ensures { IfOk result (λ x. x ≡ node.now) }
 {
@@ -52,7 +52,7 @@ fn copy_node(node: &Node) -> Result<Node, AllocError>
     })
 }
 
-/// Adds a copy of the node of that number, if one bears it.
+/// Adds a copy of the node with this number, if there is one.
 fn add_node(nodes: &mut Vec<Node>, tree: &Tree, number: u64) -> Result<(), AllocError>
     requires { ListsBelow (at_in tree.now) number nodes.old.items }
     ensures { OnOk result (ListsBelow (at_in tree.now) (number + 1) nodes.new.items) }
@@ -65,7 +65,7 @@ fn add_node(nodes: &mut Vec<Node>, tree: &Tree, number: u64) -> Result<(), Alloc
     Ok(())
 }
 
-/// All nodes, by rising number.
+/// All nodes, sorted by number.
 fn copy_nodes(alloc: Global, tree: &Tree) -> Result<Vec<Node>, AllocError>
     ensures distinct { IfOk result (λ xs. IsDistinct xs.items) }
     ensures nodes { IfOk result (λ xs. node_at xs.items ≡ at_in tree.now) }
@@ -79,7 +79,7 @@ fn copy_nodes(alloc: Global, tree: &Tree) -> Result<Vec<Node>, AllocError>
     Ok(nodes)
 }
 
-/// The same paths once more.
+/// Copies of the paths.
 fn copy_paths(alloc: Global, paths: &[Path]) -> Result<Paths, AllocError>
     ensures { IfOk result (λ ps. ps ≡ paths.now) }
 {
@@ -90,7 +90,7 @@ fn copy_paths(alloc: Global, paths: &[Path]) -> Result<Paths, AllocError>
     Ok(Paths::from_vec(copies))
 }
 
-/// The same node with the same path once more.
+/// A copy of the node with its path.
 fn copy_lead(lead: &GivenPath) -> Result<GivenPath, AllocError>
     ensures { IfOk result (λ l. l ≡ lead.now) }
 {
@@ -101,7 +101,7 @@ fn copy_lead(lead: &GivenPath) -> Result<GivenPath, AllocError>
     })
 }
 
-/// The same nodes with the same paths once more.
+/// Copies of the nodes with their paths.
 fn copy_leads(alloc: Global, leads: &[GivenPath]) -> Result<GivenPaths, AllocError>
     ensures { IfOk result (λ ls. ls ≡ leads.now) }
 {
@@ -112,7 +112,7 @@ fn copy_leads(alloc: Global, leads: &[GivenPath]) -> Result<GivenPaths, AllocErr
     Ok(GivenPaths::from_vec(copies))
 }
 
-/// The same names once more.
+/// Copies of the names.
 fn copy_held(alloc: Global, held: &Held) -> Result<Held, AllocError>
     ensures { IfOk result (λ h. h ≡ held.now) }
 {
@@ -126,7 +126,7 @@ fn copy_held(alloc: Global, held: &Held) -> Result<Held, AllocError>
     })
 }
 
-/// No node and no name.
+/// No nodes and no names.
 fn nothing_held(alloc: Global) -> Held
     ensures { result ≡ record { given = []; shared = []; exclusive = [] } }
 {
@@ -137,7 +137,7 @@ fn nothing_held(alloc: Global) -> Held
     }
 }
 
-/// What a request holds: nothing once its work has ended.
+/// What a request holds: nothing after its work has ended.
 fn held_of(alloc: Global, stage: &table_requests::Stage) -> Result<Held, AllocError>
     ensures { IfOk result (λ h. h ≡ held_of stage.now) }
 {
@@ -147,7 +147,7 @@ fn held_of(alloc: Global, stage: &table_requests::Stage) -> Result<Held, AllocEr
     }
 }
 
-/// What a request in flight shows of itself.
+/// A request in flight, as plain data.
 fn copy_record(alloc: Global, flight: &RequestInFlight) -> Result<Record, AllocError>
     ensures { IfOk result (IsCopyOf flight.now) }
 {
@@ -162,7 +162,7 @@ fn copy_record(alloc: Global, flight: &RequestInFlight) -> Result<Record, AllocE
     })
 }
 
-/// How far the request has come.
+/// How far the request is.
 fn stage(flight: &RequestInFlight) -> ImageStage
     ensures { result ≡ stage_of flight.now.stage }
 {
@@ -184,14 +184,14 @@ fn copy_records(alloc: Global, flights: &[RequestInFlight]) -> Result<Vec<Record
     Ok(records)
 }
 
-/// Whether the path is one of those.
+/// Whether the path is already in the list.
 fn is_stored(holds: &[Hold], path: &Path) -> bool
     ensures { IsTrue result ↔ IsStored holds.now path.now }
 {
     holds.iter().any(|hold| hold.path.is(path))
 }
 
-/// Adds a path that is held, with its two numbers, if it is not there yet.
+/// Adds a path that is held, with its two numbers, unless the list already has it.
 fn add_hold(
     holds: &mut Vec<Hold>,
     flights: &RequestsInFlight,
@@ -214,7 +214,7 @@ fn add_hold(
     Ok(())
 }
 
-/// Adds the paths, each of which is held, as far as they are not there yet.
+/// Adds the paths, each of which is held, unless the list already has them.
 fn add_paths(
     holds: &mut Vec<Hold>,
     flights: &RequestsInFlight,
@@ -231,7 +231,7 @@ fn add_paths(
     Ok(())
 }
 
-/// Adds the paths that the request holds, as far as they are not there yet.
+/// Adds the paths that the request holds, unless the list already has them.
 fn add_held(
     holds: &mut Vec<Hold>,
     flights: &RequestsInFlight,
@@ -253,7 +253,7 @@ fn add_held(
     }
 }
 
-/// The paths that are held, each once, with how many share it and how many hold it exclusively.
+/// The paths that are held, each once, with how many requests share it and how many hold it exclusively.
 fn copy_holds(alloc: Global, flights: &RequestsInFlight) -> Result<Vec<Hold>, AllocError>
     ensures { IfOk result (λ hs. AreCounts (sharers_in flights.now.flights) (exclusive_in_all flights.now.flights) hs.items) }
 {
@@ -264,7 +264,7 @@ fn copy_holds(alloc: Global, flights: &RequestsInFlight) -> Result<Vec<Hold>, Al
     Ok(holds)
 }
 
-/// All that the table keeps, as plain data.
+/// Everything that the table keeps, as plain data.
 pub fn export(state: &State) -> Result<Image, AllocError>
     requires { IsKept state.now }
     ensures exports { IfOk result (Exports (world_of state.now)) }

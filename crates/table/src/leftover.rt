@@ -1,4 +1,4 @@
-//! What is left of files that were hidden.
+//! Hidden files that still exist.
 
 ghost use Rattle.std.specs.Prelude.{◌+◌, ◌↔◌, IfOk, IsTrue, OnOk};
 ghost use Rattle.table_steps.specs.Kept.{IsKept, world_of};
@@ -12,7 +12,7 @@ use std::alloc::{AllocError, Global};
 use table_steps::State;
 use tree::{Node, Place, Tree};
 
-/// Whether it is a file that was hidden: it has a hidden mark, and stands under a name that the server keeps for itself.
+/// Whether it is a file that was hidden: it has a hidden mark, and a name that the server keeps for itself.
 fn is_hidden(node: &Node) -> bool
     ensures { IsTrue result ↔ IsHidden node.now }
 {
@@ -45,7 +45,7 @@ fn add_leftover(
     Ok(())
 }
 
-/// The paths of all files that were hidden, by rising number.
+/// The paths of all files that were hidden, sorted by node number.
 pub fn leftover(state: &State) -> Result<Paths, AllocError>
     requires { IsKept state.now }
     ensures { IfOk result (AreLeftovers (world_of state.now).at) }

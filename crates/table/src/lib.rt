@@ -1,6 +1,7 @@
-//! The locked state of a path-based server: nodes with lookup counts, their ledger, and the requests in flight.
+//! The state of a path-based server that is kept under a lock: nodes with lookup counts, their ledger, and the requests
+//! in flight.
 //!
-//! Each call is one atomic step. The type keeps the law of its world over every run of steps.
+//! Each call is one atomic step. The type's invariant is that the law of its world holds after every run of steps.
 #![tactic(auto)]
 
 mod export;

@@ -1,4 +1,4 @@
-//! How far the last period of a ledger has come, and its end where that is due.
+//! How far the last period of a ledger is, and ending it when that is due.
 
 ghost use Rattle.std.specs.Prelude.{◌≡◌, ◌↔◌, true};
 ghost use Rattle.table.specs.Made.{IsDueBy};
@@ -9,19 +9,20 @@ ghost use Rattle.table_steps.specs.World.{IsLawfulWorld};
 use crate::table::Table;
 use ledger::Ledgers;
 
-/// How far the last period of a ledger has come.
+/// How far the last period of a ledger is.
 #[derive(Clone, Copy, Debug, PartialEq, Eq)]
 pub struct Made {
     /// The postings of the period.
     pub postings: u64,
     /// How many it may have.
     pub limit: u64,
-    /// The nodes that live, but the root.
+    /// The living nodes except the root.
     pub living: u64,
 }
 
 impl Made {
-    /// Whether the period is due to end: at least half of what it may have is posted, and more than two postings a node.
+    /// Whether the period is due to end: it has at least half of the postings that it may have, and more than two per
+    /// node.
     pub fn is_due(self) -> bool
         ensures { (result ≡ true) ↔ IsDueBy self }
     {
@@ -30,7 +31,7 @@ impl Made {
 }
 
 impl<T: Ledgers> Table<T> {
-    /// Ends the period where it is due. It takes no memory.
+    /// Ends the period if that is due. It does not allocate.
     pub fn renew(&mut self)
         ensures renews { Renews (world_of self.old) (world_of self.new) }
         ensures lawful { IsLawfulWorld (world_of self.new) }

@@ -27,7 +27,7 @@ use table_image::Image;
 use table_requests::Want;
 use table_steps::{Answered, Begin, Counts, Limits, Outcome, Seeds, Settled, State, Ticket};
 
-/// The state that all workers share, under one lock. Its type parameter names the four ledgers of its book.
+/// The state that all workers share under one lock. Its type parameter stands for the four ledgers of its book.
 #[derive(Drop)]
 pub struct Table<T: Ledgers> {
     state: State,
@@ -53,7 +53,7 @@ impl<T: Ledgers> Model for Table<T> {
     ghost invariant = { λ t. IsWhole t.state × (t.book ≡ totals_over t.state.ledger.made) };
 }
 
-/// Counts the postings of the last period from a place on for the worker that has the share.
+/// Counts the postings of the last period, from an index on, for the worker that has the share.
 fn post_since<T: Ledgers>(ledger: &Ledger, book: &mut Book<T>, share: &mut Share<T>, made: usize)
     requires within { made ≤ length ledger.now.made.last }
     requires so_far { book.old ≡ totals_over (up_to made ledger.now.made) }
@@ -68,7 +68,7 @@ fn post_since<T: Ledgers>(ledger: &Ledger, book: &mut Book<T>, share: &mut Share
 }
 
 impl<T: Ledgers> Table<T> {
-    /// A table of the root alone, and a share for each of its workers. A refused growth gives nothing.
+    /// A table with only the root, and a share for each of its workers. If memory is refused, nothing is returned.
     pub fn open(
         alloc: Global,
         limits: Limits,
@@ -90,14 +90,14 @@ impl<T: Ledgers> Table<T> {
         Ok((Table { state, book }, shares))
     }
 
-    /// Between any two calls the law holds: a call that does nothing.
+    /// For the prover: between any two calls the law holds. It does nothing.
     pub fn attest(&self)
         ensures { IsLawfulWorld (world_of self.now) }
     {
         self.state.attest(); // proof: its law
     }
 
-    /// Takes up a request. Busy and a refusal change nothing.
+    /// Begins a request. Busy and a refusal change nothing.
     pub fn begin(&mut self, unique: u64, want: Want) -> Begin
         ensures begins { Begins (world_of self.old) unique want result (world_of self.new) }
         ensures lawful { IsLawfulWorld (world_of self.new) }
@@ -107,8 +107,9 @@ impl<T: Ledgers> Table<T> {
         begin
     }
 
-    /// Ends the work on a request. Before it the period ends, where counts are free and there is no room for its postings. Of a page an entry is given for each name that was found, in order, but for those that another
-    /// request holds exclusively. It takes no memory.
+    /// Ends the work on a request. First the period ends if counts are free and there is no room for its postings. For
+    /// a page an entry is given for each name that was found, in order, except for those that another request holds
+    /// exclusively. It does not allocate.
     pub fn finish(&mut self, share: &mut Share<T>, ticket: Ticket, outcome: Outcome) -> Answered
         ensures finishes { FinishesAnew (world_of self.old) ticket.id outcome result (world_of self.new) }
         ensures lawful { IsLawfulWorld (world_of self.new) }
@@ -122,7 +123,8 @@ impl<T: Ledgers> Table<T> {
         answered
     }
 
-    /// Ends a request whose reply was taken, or was not. Before it the period may end, as before `finish`. It takes no memory.
+    /// Ends a request, after its reply was taken or was not. First the period may end, as for `finish`. It does not
+    /// allocate.
     pub fn settle(&mut self, share: &mut Share<T>, answered: Answered, taken: bool) -> Settled
         ensures settles { SettlesAnew (world_of self.old) answered taken result (world_of self.new) }
         ensures lawful { IsLawfulWorld (world_of self.new) }
@@ -136,8 +138,8 @@ impl<T: Ledgers> Table<T> {
         settled
     }
 
-    /// The client gives `n` lookups of a node back: the smaller of `n` and its count is taken, and told. Before it
-    /// the period may end, as before `finish`. It takes no memory.
+    /// The client forgets `n` lookups of a node: the smaller of `n` and its count is taken, and returned. First the
+    /// period may end, as for `finish`. It does not allocate.
     pub fn forget(&mut self, share: &mut Share<T>, number: u64, n: u64) -> u64
         ensures forgets { ForgetsAnew (world_of self.old) number n result (world_of self.new) }
         ensures lawful { IsLawfulWorld (world_of self.new) }
@@ -151,8 +153,9 @@ impl<T: Ledgers> Table<T> {
         amount
     }
 
-    /// Ends a period of the ledger: births and totals are kept, and the next one begins with the count of each node but the root.
-    /// It answers by how many postings the ledger became shorter, and touches no share. It takes no memory.
+    /// Ends a period of the ledger: births and totals are kept, and the next period begins with the count of each node
+    /// except the root. It returns how many postings the ledger became shorter by, and does not touch any share. It
+    /// does not allocate.
     pub fn close_period(&mut self) -> u64
         ensures closes { ClosesPeriod (world_of self.old) result (world_of self.new) }
         ensures lawful { IsLawfulWorld (world_of self.new) }
@@ -162,7 +165,8 @@ impl<T: Ledgers> Table<T> {
         closed
     }
 
-    /// How many postings the last period has, how many it may have, and how many nodes live beside the root. It takes no memory.
+    /// How many postings the last period has, how many it may have, and how many nodes are alive besides the root. It
+    /// does not allocate.
     pub fn made(&self) -> Made
         ensures { IsMade (world_of self.now) result }
     {
@@ -173,22 +177,22 @@ impl<T: Ledgers> Table<T> {
         }
     }
 
-    /// The open file under the handle.
+    /// The file open under the handle.
     pub fn file(&self, handle: u64) -> Option<OpenFile>
         ensures { result ≡ (world_of self.now).files handle }
     {
         self.state.files.get(handle)
     }
 
-    /// The paths of all nodes with a hidden mark that stand under a name of the server's own, by rising number: of files that were hidden
-    /// and are still there.
+    /// The paths of hidden files that still exist: of all nodes with a hidden mark and a name that the server keeps for
+    /// itself, sorted by number.
     pub fn leftover(&self) -> Result<Paths, AllocError>
         ensures { IfOk result (AreLeftovers (world_of self.now).at) }
     {
         leftover(&self.state)
     }
 
-    /// All that the table keeps, as plain data. It is lawful.
+    /// Everything that the table keeps, as plain data. It is lawful.
     pub fn export(&self) -> Result<Image, AllocError>
         ensures exports { IfOk result (Exports (world_of self.now)) }
         ensures lawful { IfOk result IsLawfulImage }
@@ -196,7 +200,8 @@ impl<T: Ledgers> Table<T> {
         export(&self.state)
     }
 
-    /// Adds up the shares. Where none is missing, their sum is what the ledger holds. The table and the shares are used up.
+    /// Adds up the shares. If none is missing, their sum is the total of the ledger. The table and the shares are used
+    /// up.
     pub fn gather(self, shares: Vec<Share<T>>) -> Result<Totals, Gather>
         ensures missing { IsErr result ↔ (vec_len shares < T.names.parts) }
         ensures sums { IfOk result (λ totals. totals ≡ sum_of shares.items) }

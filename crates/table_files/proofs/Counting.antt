@@ -1,4 +1,4 @@
--- One file more of a node, and one less.
+-- Counting one more file of a node, and one less.
 use Rattle.std.proofs.Common.{ℕ, ◌+◌, ◌-◌, ◌<◌, ◌≡◌, ◌≢◌, Option, Some, None, if◌then◌else◌, nat_eq, sym, ap, ◌∙◌, subst, inl, inr, arith}
 use Rattle.std.specs.Prelude.{unwrap_or}
 use Rattle.std.proofs.lemmas.Bool.{cases_eq, cond-false, cond-true, eq-eqb, ne_eqb}
@@ -16,12 +16,12 @@ at_number n m x y e = cond-true (nat_eq n m) x y (eq-eqb n m e)
 off_number : {X : Type 0} (n m : ℕ) (x y : X) → n ≢ m → (if nat_eq n m then x else y) ≡ y
 off_number n m x y ne = cond-false (nat_eq n m) x y (ne_eqb n m ne)
 
--- a number that is not 0 was found
+-- a count other than 0 is found
 pub of_some : (o : Option ℕ) (count : ℕ) → unwrap_or o 0 ≡ count → 0 < count → o ≡ Some count
 of_some None count e more = absurd (omega (arith, e, more))
 of_some (Some n) count e more = ap (λ (k : ℕ). Some k) e
 
--- how many files are open beside the first of a node
+-- how many open files there are besides the first one of a node
 abbrev beside : ℕ → ℕ
 beside count = count - 1
 
@@ -36,7 +36,7 @@ module _ {S : Type 0} (old new : IndexMap ℕ (Option ℕ) S) (number : ℕ) whe
       | inr ne ↦ some n count (sym (wrote n ∙ off_number number n (Some value) (before n) ne) ∙ there)
     ]
 
-    -- what is kept for each node, once it is written
+    -- the counts after one was written
     pub written : (n : ℕ) → openings_in new n ≡ (if nat_eq number n then value else openings_in old n)
     written n = elim (cases_eq number n) [
       | inl e ↦ ap (λ (o : Option ℕ). unwrap_or o 0) (wrote n ∙ at_number number n (Some value) (before n) e) ∙ sym (at_number number n value (openings_in old n) e)
@@ -88,7 +88,7 @@ module _ {S : Type 0} (old new : IndexMap ℕ (Option ℕ) S) (number : ℕ) whe
         }
 
   module _ (taken : (q : ℕ) → found nat_eq new q ≡ (if nat_eq number q then None else found nat_eq old q)) where
-    -- what is kept for each node, once one is taken out
+    -- the counts after one was removed
     pub taken_out : (n : ℕ) → openings_in new n ≡ (if nat_eq number n then 0 else openings_in old n)
     taken_out n = elim (cases_eq number n) [
       | inl e ↦ ap (λ (o : Option ℕ). unwrap_or o 0) (taken n ∙ at_number number n None (before n) e) ∙ sym (at_number number n 0 (openings_in old n) e)

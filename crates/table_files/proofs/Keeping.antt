@@ -1,4 +1,4 @@
--- Files stay counted, and the room stays, over each step.
+-- Each step keeps the files counted and the room.
 use Rattle.std.proofs.Common.{ℕ, ◌+◌, ◌-◌, ◌*◌, ◌<◌, ◌≤◌, ◌≡◌, ◌==◌, if◌then◌else◌, nat_eq, List, [], ◌∷◌, ◌++◌, Vec, vec_len, vec_capacity, cond, length, get_or, Option, refl, sym, ap, ◌∙◌, subst, arith}
 use Rattle.std.specs.Prelude.{unwrap_or}
 use Rattle.std.specs.List.{remove}
@@ -18,7 +18,7 @@ use Rattle.table_files.specs.declared.listed.OpenEntry.{OpenEntry}
 use Rattle.table_files.specs.OpenEntry.{IsFiled, IsNumbered, count_in}
 use Rattle.table_files.proofs.Stepping.{IsNumbered-push, IsNumbered-remove}
 
--- one for a file of the node
+-- 1 for a file of the node, and 0 for any other
 abbrev counts_as : ℕ → OpenEntry → ℕ
 counts_as number f = cond (f.file.number == number) 1 0
 
@@ -39,7 +39,7 @@ module _ {S : Type 0} (old new : IndexMap ℕ (Option ℕ) S) (same : IsUnchange
   }
 
 module _ (v w : Vec OpenEntry Global) (counts counts' : OpenCounts) (last room : ℕ) (filed : IsFiled v counts last room) where
-  -- what opening a file asks for
+  -- what counting a new file requires
   pub few_opened : 0 < room → (number : ℕ) → openings_in counts.by_number number + 1 ≤ vec_capacity v
   few_opened some number =
       let counted = filed.counted number in
@@ -67,7 +67,7 @@ module _ (v w : Vec OpenEntry Global) (counts counts' : OpenCounts) (last room :
         places = omega (arith, longer, had, more, some);
       }
 
-  -- there may be more memory
+  -- the capacity may grow
   pub filed_reserved : (more : ℕ) → w.items ≡ v.items → vec_len w ≡ vec_len v → IsUnchanged counts.by_number counts'.by_number → counts'.nodes ≡ counts.nodes
       → vec_len w + more ≤ vec_capacity w → 2 * (vec_len w + more) ≤ places counts'.by_number → IsFiled w counts' last more
   filed_reserved more items len same nodes fits places_are = record {
@@ -82,7 +82,7 @@ module _ (v w : Vec OpenEntry Global) (counts counts' : OpenCounts) (last room :
     counted_there : (number : ℕ) → count_in (remove v.items i) number + counts_as number f ≡ count_in v.items number
     counted_there number = ap (λ (g : OpenEntry). count_in (remove v.items i) number + counts_as number g) there ∙ sum_by-remove (counts_as number) v.items i f within
 
-    -- what closing the file asks for
+    -- what uncounting a file requires
     pub some_opened : 0 < openings_in counts.by_number f.file.number
     some_opened =
         let counted = filed.counted f.file.number in
@@ -90,7 +90,7 @@ module _ (v w : Vec OpenEntry Global) (counts counts' : OpenCounts) (last room :
         let one : counts_as f.file.number f ≡ 1 = cond-true (f.file.number == f.file.number) 1 0 (eq-eqb f.file.number f.file.number refl) in
         omega (arith, counted, whole, one)
 
-    -- the file that stands there is closed
+    -- the file at index i is closed
     pub filed_closed : w.items ≡ remove v.items i → vec_len w + 1 ≡ vec_len v → vec_capacity w ≡ vec_capacity v
         → ((n : ℕ) → openings_in counts'.by_number n ≡ openings_in counts.by_number n - (if nat_eq f.file.number n then 1 else 0))
         → ((total : ℕ) → AddUpTo counts.by_number counts.nodes total → AddUpTo counts'.by_number counts'.nodes (total - 1)) → places counts.by_number ≤ places counts'.by_number

@@ -1,4 +1,4 @@
--- What holds of open files in a list with rising handles.
+-- Open files as a list with rising handles.
 use Rattle.std.proofs.Common.{ℕ, ◌+◌, ◌<◌, ◌≤◌, ◌≡◌, ◌≢◌, ◌==◌, ◌||◌, Bool, cond, nat_lt, List, [], ◌∷◌, Some, None, Vec, length, get_or, refl, sym, ap, ◌∙◌, subst, inl, inr, arith}
 use Rattle.std.specs.List.{list_any}
 use Rattle.std.specs.Prelude.{AllPairs, count_by, sum_by}
@@ -22,15 +22,15 @@ key f = f.handle
 abbrev pub value : OpenEntry → OpenFile
 value f = f.file
 
--- handles that rise are apart
+-- rising handles are distinct
 pub apart : (fs : List OpenEntry) (last : ℕ) → IsNumbered fs last → HaveOwnKeys key value fs
 apart fs last numbered i j d before within e = let less = numbered.rising i j d before within in omega (arith, less, e)
 
--- each of the list is found under its handle
+-- each file in the list is found under its handle
 pub listed_at : (fs : List OpenEntry) → AllPairs (λ (f g : OpenEntry). f.handle < g.handle) fs → (k : ℕ) (d : OpenEntry) → k < length fs → file_in fs (get_or fs k d).handle ≡ Some (get_or fs k d).file
 listed_at fs rising k d within = found_at key value fs k d (λ i j e before last same. let less = rising i j e before last in omega (arith, less, same)) within
 
--- the handle is that of none, where those before the place have lesser ones, and the one there has another
+-- the handle has no file if all before the index are smaller and the one there is another
 pub not_there : (fs : List OpenEntry) (i handle : ℕ) → AllPairs (λ (f g : OpenEntry). f.handle < g.handle) fs
     → ((k : ℕ) (d : OpenEntry) → k < i → (get_or fs k d).handle < handle) → ((k : ℕ) (d : OpenEntry) → i ≤ k → k < length fs → handle ≤ (get_or fs k d).handle)
     → (i < length fs → (d : OpenEntry) → (get_or fs i d).handle ≢ handle) → file_in fs handle ≡ None
@@ -45,14 +45,14 @@ not_there fs i handle rising below above other = not_found key value fs handle (
   ]
 ])
 
--- handles that rise fall into those below a handle and those from it on
+-- rising handles split into those below a handle and those from it on
 pub parted : (fs : List OpenEntry) (handle : ℕ) → AllPairs (λ (f g : OpenEntry). f.handle < g.handle) fs → IsPartitionedBy (λ (f : OpenEntry). nat_lt f.handle handle) fs
 parted fs handle rising i j d order within less = elim (cases_eq i j) [
   | inl same ↦ ap (λ k. nat_lt (get_or fs k d).handle handle) same ∙ less
   | inr other ↦ let up = rising i j d (omega arith) within in let low = ltb-true (get_or fs j d).handle handle less in lt-ltb (get_or fs i d).handle handle (omega (arith, up, low))
 ]
 
--- a handle that was not given yet leads to none
+-- a handle that was not used yet leads to no file
 pub fresh : (fs : List OpenEntry) (last : ℕ) → IsNumbered fs last → file_in fs (last + 1) ≡ None
 fresh fs last numbered = not_found key value fs (last + 1) (λ j d within e. let given = (numbered.given j d within).1 in absurd (omega (arith, given, e)))
 
@@ -95,7 +95,7 @@ openings_listed v counts last room all number n filed is e =
     subst (λ (a : Filing). IsSum (file_in a.files) (of_node number) n) is
     (subst (λ (t : ℕ). IsSum (file_in v.items) (of_node number) t) (sym (e ∙ filed.counted number)) (sum_found key value v.items (of_node number) (apart v.items last filed.numbered)))
 
--- one passes a test where more than none are counted that pass it
+-- some element passes a test exactly if more than none are counted that pass it
 pub any_counted : {X : Type 0} (p : X → Bool) (xs : List X) → nat_lt 0 (count_by p xs) ≡ list_any p xs
 any_counted p [] = refl
 any_counted p (x ∷ xs) =

@@ -1,4 +1,4 @@
--- Each step on open files, over their list.
+-- Each step on open files, in terms of the list.
 use Rattle.std.proofs.Common.{ℕ, ◌+◌, ◌-◌, ◌<◌, ◌≤◌, ◌≡◌, ◌==◌, ◌||◌, Bool, true, false, List, [], ◌∷◌, ◌++◌, Some, Vec, All, length, get_or, refl, sym, ap, ◌∙◌, subst, inl, inr, arith}
 use Rattle.std.specs.List.{list_any, remove}
 use Rattle.std.proofs.lemmas.Bool.{cases_lt}
@@ -17,7 +17,7 @@ use Rattle.table_files.specs.Handles.{Files, Opened, after_close, after_open, wi
 use Rattle.table_files.specs.OpenEntry.{Filing, IsNumbered, file_in, files_of, filing}
 use Rattle.table_files.proofs.Listing.{apart, fresh, key, value}
 
--- all fields are the same
+-- equal if all fields are equal
 same_opened : (at at' : Files) (opened opened' : ℕ → Bool) (many many' last room room' : ℕ) → at ≡ at' → opened ≡ opened' → many ≡ many' → room ≡ room'
     → (let a : Opened = record { at = at; opened = opened; many = many; last = last; room = room } in a) ≡ (record { at = at'; opened = opened'; many = many'; last = last; room = room' })
 same_opened at at' opened opened' many many' last room room' a o m r =
@@ -52,7 +52,7 @@ IsNumbered-push fs last file numbered =
       given = All-push (λ (f : OpenEntry). (0 < f.handle) × (f.handle ≤ last + 1)) fs filed (λ k d within. let given = numbered.given k d within in (given.0, omega (arith, given.1))) (omega arith, omega arith);
     }
 
--- what holds of all holds of those that stay
+-- what holds of all elements holds of those that remain
 All-remove : {X : Type 0} (P : X → Type 0) (xs : List X) (i : ℕ) → i < length xs → All P xs → All P (remove xs i)
 All-remove P xs i inside all k d within =
     let shorter = length-remove xs i inside in
@@ -68,7 +68,7 @@ module _ (fs : List OpenEntry) (last i handle : ℕ) (numbered : IsNumbered fs l
   pub looked_up : file_in (remove fs i) ≡ without_file (file_in fs) handle
   looked_up = found-remove key value fs i some_filed (apart fs last numbered) within ∙ ap (without_file (file_in fs)) (there some_filed)
 
-  -- the file that stands there is found
+  -- the file at that index is found
   pub file_there : (d : OpenEntry) → Some (get_or fs i d).file ≡ file_in fs handle
   file_there d = sym (found_at key value fs i d (apart fs last numbered) within) ∙ ap (file_in fs) (there d)
 
@@ -92,7 +92,7 @@ module _ (v : Vec OpenEntry Global) (last room : ℕ) (all : Filing) (i handle :
       subst (λ (a : Filing). files_of (filing w last (room + 1)) ≡ after_close (files_of a) handle (files_of (filing w last (room + 1))).opened) is
       (same_opened _ _ _ _ _ _ _ _ _ (handed v.items last i handle numbered within there w.items items) refl (counted v.items last i handle numbered within there w.items items) refl)
 
-  -- the file that stands there is the one under the handle
+  -- the file at that index is the one open under the handle
   pub file_closed : (f : OpenEntry) → f ≡ get_or v.items i f → Some f.file ≡ (files_of all).at handle
   unfolding files_of
   file_closed f e =

@@ -1,4 +1,4 @@
--- Open files, one after another, as they were opened.
+-- Open files in a list, in the order in which they were opened.
 use Rattle.std.specs.Prelude.{ℕ, ◌+◌, ◌*◌, ◌<◌, ◌≤◌, ◌≡◌, ◌==◌, Bool, All, AllPairs, List, Vec, count_by, find, length, option_map, vec_len, vec_capacity}
 use Rattle.std.specs.List.{list_any}
 use Rattle.std.specs.declared.alloc.Global.{Global}
@@ -8,7 +8,7 @@ use Rattle.table_files.specs.declared.counts.OpenCounts.{OpenCounts}
 use Rattle.table_files.specs.declared.listed.OpenEntry.{OpenEntry}
 use Rattle.table_files.specs.Handles.{Files, Opened}
 
--- files, the last handle, and how many more take no memory
+-- the files, the last handle, and how many more can be opened without allocating
 pub record Filing : Type 0 where
   pub files : List OpenEntry
   pub last : ℕ
@@ -17,15 +17,15 @@ pub record Filing : Type 0 where
 abbrev pub filing : Vec OpenEntry Global → ℕ → ℕ → Filing
 filing files last room = record { files = files.items; last = last; room = room }
 
--- each by its handle
+-- the files by their handles
 abbrev pub file_in : List OpenEntry → Files
 file_in files handle = option_map (λ (f : OpenEntry). f.file) (find (λ (f : OpenEntry). f.handle == handle) files)
 
--- whether a file of the node is among them
+-- whether the list has a file of the node
 abbrev pub opened_in : List OpenEntry → ℕ → Bool
 opened_in files number = list_any (λ (f : OpenEntry). f.file.number == number) files
 
--- all of them by their handles
+-- the list as open files by their handles
 unfoldable pub files_of : Filing → Opened
 files_of all = record {
   at = file_in all.files;
@@ -35,16 +35,16 @@ files_of all = record {
   room = all.room;
 }
 
--- handles rise, from 1 to the last
+-- the handles rise, from 1 to the last
 pub record IsNumbered (files : List OpenEntry) (last : ℕ) : Type 0 where
   pub rising : AllPairs (λ (f g : OpenEntry). f.handle < g.handle) files
   pub given : All (λ (f : OpenEntry). (0 < f.handle) × (f.handle ≤ last)) files
 
--- how many files of the node are among them
+-- how many files of the node the list has
 abbrev pub count_in : List OpenEntry → ℕ → ℕ
 count_in files number = count_by (λ (f : OpenEntry). f.file.number == number) files
 
--- what always holds of the files: they are counted, and there is the room
+-- the invariant: the files are counted, and the room is there
 pub record IsFiled (files : Vec OpenEntry Global) (counts : OpenCounts) (last room : ℕ) : Type 0 where
   pub numbered : IsNumbered files.items last
   pub counted : (number : ℕ) → openings_in counts.by_number number ≡ count_in files.items number

@@ -9,15 +9,15 @@ use collections::steady_map::{make_places, put, set, take_out, value_of};
 use indexmap::IndexMap;
 use std::alloc::{AllocError, Global};
 
-/// How many files of each node are open: a number stands there for each node with one.
+/// How many files of each node are open: the map has a number for each node that has one.
 #[derive(Drop)]
 pub(crate) struct OpenCounts {
     pub(crate) by_number: IndexMap<u64, Option<u64>>,
-    /// How many nodes have an open file.
+    /// How many nodes have open files.
     pub(crate) nodes: usize,
 }
 
-/// No file is open.
+/// No open files.
 pub(crate) fn no_counts(alloc: Global) -> OpenCounts
     ensures none { (n : ℕ) → openings_in result.by_number n ≡ 0 }
     ensures total { AddUpTo result.by_number result.nodes 0 }
@@ -38,7 +38,7 @@ pub(crate) fn openings_of(counts: &OpenCounts, number: u64) -> u64
     }
 }
 
-/// One file more of the node is open. It takes no memory.
+/// Counts one more open file of the node. It does not allocate.
 pub(crate) fn raise(counts: &mut OpenCounts, number: u64)
     requires few { openings_in counts.old.by_number number + 1 < 2 ^ 64 }
     requires nodes { counts.old.nodes + 1 < 2 ^ 64 }
@@ -56,7 +56,7 @@ pub(crate) fn raise(counts: &mut OpenCounts, number: u64)
     }
 }
 
-/// One file less of the node is open. It takes no memory.
+/// Counts one open file less of the node. It does not allocate.
 pub(crate) fn lower(counts: &mut OpenCounts, number: u64)
     requires some { 0 < openings_in counts.old.by_number number }
     requires nodes { counts.old.nodes ≡ live counts.old.by_number }
@@ -73,7 +73,7 @@ pub(crate) fn lower(counts: &mut OpenCounts, number: u64)
     }
 }
 
-/// Makes places for so many nodes with open files. Without memory nothing changes.
+/// Makes room for `nodes` nodes with open files. If memory is refused, nothing changes.
 pub(crate) fn make_room(counts: &mut OpenCounts, nodes: usize) -> Result<(), AllocError>
     requires nodes { counts.old.nodes ≡ live counts.old.by_number }
     requires more { counts.old.nodes ≤ nodes }

@@ -3,7 +3,7 @@
 ghost use Rattle.std.specs.Prelude.{◌≡◌};
 ghost use Rattle.table_files.specs.Handles.{allows};
 
-/// For what a file is opened.
+/// What a file is opened for.
 #[derive(Clone, Copy, Debug, PartialEq, Eq)]
 pub enum Access {
     Reading,
@@ -11,17 +11,17 @@ pub enum Access {
     Both,
 }
 
-/// For what a handle is used.
+/// What a handle is used for.
 #[derive(Clone, Copy, Debug, PartialEq, Eq)]
 pub enum Need {
     Reading,
     Writing,
-    /// Anything that either access allows.
+    /// Anything that any access allows.
     Any,
 }
 
 impl Access {
-    /// Whether a handle of this access may be used so.
+    /// Whether a handle with this access may be used for that.
     pub fn allows(self, need: Need) -> bool
         ensures { result ≡ allows self need }
     {
@@ -33,10 +33,10 @@ impl Access {
     }
 }
 
-/// A file that was opened and not closed yet.
+/// A file that was opened and not yet closed.
 #[derive(Clone, Copy, Debug, PartialEq, Eq)]
 pub struct OpenFile {
-    /// The inode number of its node.
+    /// The number of its node.
     pub number: u64,
     /// The generation that its node had when it was opened.
     pub generation: u64,

@@ -1,4 +1,4 @@
-//! Open files, each under a handle of its own.
+//! Open files, each with a handle of its own.
 
 ghost use Rattle.std.specs.Prelude.{◌≡◌, ◌<◌, ◌≤◌, ◌+◌, ◌^◌, ◌==◌, AllPairs, IfNone, IfSome, IsOk, OnOk};
 ghost use Rattle.collections.specs.Sum.{IsSum};
@@ -12,13 +12,13 @@ use crate::listed::{OpenEntry, index_of};
 use std::alloc::{AllocError, Global};
 use std::marker::Model;
 
-/// Open files, each under a handle of its own. Handles rise from 1, and none is ever given twice.
+/// Open files, each with a handle of its own. Handles rise from 1, and none is ever used again.
 #[derive(Drop)]
 pub struct Files {
     files: Vec<OpenEntry>,
     counts: OpenCounts,
     last: u64,
-    /// How many more may be opened without memory.
+    /// How many more files may be opened without allocating.
     room: usize,
 }
 
@@ -34,7 +34,7 @@ impl Model for Files {
 
 #[tactic(auto, unfolding(crate::specs::OpenEntry::files_of))]
 impl Files {
-    /// None is open, and no handle was given.
+    /// No open files, and no handle in use so far.
     pub fn new(alloc: Global) -> Files
         ensures at { (files_of result).at ≡ no_files }
         ensures many { (files_of result).many ≡ 0 }
@@ -49,7 +49,7 @@ impl Files {
         }
     }
 
-    /// The file under the handle.
+    /// The file open under the handle.
     pub fn get(&self, handle: u64) -> Option<OpenFile>
         ensures at { result ≡ (files_of self.now).at handle }
         ensures law { AreOpenEntries (files_of self.now) }
@@ -58,7 +58,7 @@ impl Files {
         Some(self.files[i].file)
     }
 
-    /// How many are open.
+    /// How many files are open.
     pub fn len(&self) -> usize
         ensures many { result ≡ (files_of self.now).many }
         ensures law { AreOpenEntries (files_of self.now) }
@@ -66,14 +66,14 @@ impl Files {
         self.files.len()
     }
 
-    /// The last handle that was given, or 0.
+    /// The last handle that was used, or 0.
     pub fn last(&self) -> u64
         ensures { result ≡ (files_of self.now).last }
     {
         self.last
     }
 
-    /// How many handles may still be given.
+    /// How many handles are left to be used.
     pub fn handles_left(&self) -> u64
         ensures { result + (files_of self.now).last + 1 ≡ 2 ^ 64 }
     {
@@ -95,7 +95,7 @@ impl Files {
         openings_of(&self.counts, number)
     }
 
-    /// All of them, by rising handle.
+    /// All open files, sorted by handle.
     pub fn as_slice(&self) -> &[OpenEntry]
         ensures at { file_in result.now ≡ (files_of self.now).at }
         ensures opened { opened_in result.now ≡ (files_of self.now).opened }
@@ -105,7 +105,7 @@ impl Files {
         self.files.as_slice()
     }
 
-    /// Makes room for so many. Want of memory is the only error, and then there is the room that there was.
+    /// Makes room for `n` files. Out of memory is the only error, and then the room is as before.
     pub fn reserve(&mut self, n: usize) -> Result<(), AllocError>
         ensures ok { OnOk result (n ≤ (files_of self.new).room) }
         ensures had_room { n ≤ (files_of self.old).room → IsOk result }
@@ -122,7 +122,7 @@ impl Files {
         Ok(())
     }
 
-    /// Opens a file under the next handle, for which there is room, and gives the handle.
+    /// Opens a file under the next handle and returns the handle. There must be room for it.
     pub fn open(&mut self, file: OpenFile) -> u64
         requires room { 0 < (files_of self.old).room }
         requires left { (files_of self.old).last + 1 < 2 ^ 64 }
@@ -138,7 +138,7 @@ impl Files {
         handle
     }
 
-    /// Closes the file under the handle, if one is open, and gives it.
+    /// Closes the file under the handle, if one is open, and returns it.
     pub fn close(&mut self, handle: u64) -> Option<OpenFile>
         ensures file { result ≡ (files_of self.old).at handle }
         ensures none { IfNone result (self.new ≡ self.old) }

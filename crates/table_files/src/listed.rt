@@ -1,4 +1,4 @@
-//! Open files as a list of them, by rising handle.
+//! Open files as a list, sorted by handle.
 
 ghost use Rattle.std.specs.Prelude.{true, false, ◌≡◌, ◌<◌, ◌≤◌, ℕ, AllPairs, None, IfNone, IfSome, length, slice_index_or};
 ghost use Rattle.table_files.specs.declared.listed.OpenEntry.{OpenEntry};
@@ -6,14 +6,14 @@ ghost use Rattle.table_files.specs.OpenEntry.{file_in};
 
 use crate::data::OpenFile;
 
-/// A file under its handle.
+/// A file with its handle.
 #[derive(Clone, Copy, Debug, PartialEq, Eq)]
 pub struct OpenEntry {
     pub handle: u64,
     pub file: OpenFile,
 }
 
-/// How many files have a lesser handle. It takes as many steps as that number has binary digits.
+/// How many files have a smaller handle. It is a binary search.
 fn place_for(files: &[OpenEntry], handle: u64) -> usize
     requires { AllPairs (λ (f g : OpenEntry). f.handle < g.handle) files.now }
     ensures within { result ≤ length files.now }
@@ -23,7 +23,7 @@ fn place_for(files: &[OpenEntry], handle: u64) -> usize
     files.partition_point(|f| f.handle < handle)
 }
 
-/// The place of the handle in the list.
+/// The index of the handle in the list.
 pub fn index_of(files: &[OpenEntry], handle: u64) -> Option<usize>
     requires { AllPairs (λ (f g : OpenEntry). f.handle < g.handle) files.now }
     ensures none { IfNone result (file_in files.now handle ≡ None) }

@@ -1,4 +1,4 @@
--- What was gathered is what the footprint asks for.
+-- What was collected is what the footprint reserves.
 use Rattle.std.proofs.Common.{ℕ, ℤ, ◌*◌, ◌≤◌, ◌≡◌, ◌↔◌, ◌++◌, Bool, true, false, if◌then◌else◌, List, [], ◌∷◌, All, Contains, get_or, length, refl, sym, ap, ◌∙◌, subst, inl, inr, arith}
 use Rattle.std.specs.Prelude.{Any, map}
 use Rattle.std.specs.List.{AllZip}
@@ -28,7 +28,7 @@ use Rattle.table_footprints.proofs.Members.{all_in, any_cases, any_first, any_in
 
 -- ---- prefixes above a name
 
--- a prefix of a path that is not the whole path is one of the path above it
+-- a prefix of a path other than the whole path is a prefix of the path above it
 pub prefix_above : (p up : Names) (name : Name) → is_prefix p (up ++ name ∷ []) ≡ true → (p ≡ up ++ name ∷ [] → ⊥) → is_prefix p up ≡ true
 prefix_above [] up name begins other = refl
 prefix_above (x ∷ []) [] name begins other =
@@ -228,7 +228,7 @@ promise_for true false [] hold change entered = absurd entered
 promise_for true false (AtNode n ∷ ls) hold change entered = absurd entered
 promise_for true false (AtName parent name ∷ ls) hold change entered = refl
 
--- the first two of some paths
+-- the first two of several paths
 pub may_move : (paths : List Names) (p q : Names) → 2 ≤ length paths → p ≡ get_or paths 0 p → q ≡ get_or paths 1 q → CanMove p q → MayChange Moves paths
 may_move [] p q two a b can = tt
 may_move (x ∷ []) p q two a b can = tt

@@ -1,4 +1,4 @@
--- A want has one case, and so one footprint.
+-- A want has exactly one case, and so one footprint.
 use Rattle.std.proofs.Common.{ℕ, ◌≡◌, ◌&&◌, Bool, not, refl, sym, ap, ◌∙◌}
 use Rattle.paths.specs.Prefixes.{Name}
 use Rattle.table_requests.specs.declared.data.Case.{Case}

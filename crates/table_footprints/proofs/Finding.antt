@@ -20,7 +20,7 @@ location_once at tree (AtName parent name) p q a b = a.whole ∙ (ap (λ (up : N
 
 -- ---- refusals
 
--- a path and a cut exclude each other, and so do a path and no node
+-- a node with a path is not cut, and a number without a node has no path
 pub way_or_cut : (at : Lookup) (n : ℕ) → IsTree at → (names : Names) → Reaches at 1 n names → (x : Node) → at n ≡ Some x → x.place ≡ place.Cut → ⊥
 way_or_cut at n tree [] e x stood cut =
     let r = tree.rooted in
@@ -50,7 +50,7 @@ module _ (at : Lookup) (tree : IsTree at) (n : ℕ) (leads : Leads at n) where
   name_refused name fault.Memory bad = tt
   name_refused name fault.PathLong bad = bad
 
--- ---- what stands there
+-- ---- what is there
 
 pub name_found : (at : Lookup) → IsTree at → (parent : ℕ) (name : Name) (o : Option ℕ) → IfNone o (IsFree at parent name) → IfSome o (λ n. IsNamed at n parent name) → (n : ℕ) → (o ≡ Some n) ↔ IsThere at (AtName parent name) n
 name_found at tree parent name None none some n = (λ bad. absurd (none-some n bad), λ named. absurd (none n named))

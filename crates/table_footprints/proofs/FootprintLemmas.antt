@@ -1,4 +1,4 @@
--- Each footprint has its locations at or under the nodes that it names.
+-- The locations of each footprint are at or under the nodes that it names.
 use Rattle.std.proofs.Common.{ℕ, ◌≡◌, ◌&&◌, ◌↔◌, ◌⊎◌, Bool, true, false, List, [], ◌∷◌, Contains, Option, None, Some, refl, sym, ap, ◌∙◌, subst, inl, inr}
 use Rattle.std.specs.Prelude.{Any}
 use Rattle.std.proofs.lemmas.Bool.{cases_Bool, eq-eqb}
@@ -14,7 +14,7 @@ use Rattle.table_footprints.specs.Laws.{AreOwn, AreSiblings, IsGrounded, base_of
 use Rattle.table_footprints.specs.Footprints.{Location, AtNode, AtName, Opening, Used, are_same, closed_exclusive, closed_at, closed_change, closed_on, closed_footprint, closed_shared, closing, exchange_footprint, used_on, move_footprint, name_footprint, node_footprint, page_names, page_footprint, hidden_in, names_under, removal_footprint, footprint_of}
 use Rattle.table_footprints.proofs.Members.{any_first, any_later, cases_in, first_in, in_map, later_in, none_in, only_in}
 
--- a test of two names tells whether they are spelt the same
+-- a test of two names says whether they have the same bytes
 spelt_same : (b : Bool) (name other : Name) → (b ≡ true) ↔ (name ≡ other) → b ≡ is_name name other
 spelt_same true name other h = sym (is_name-yes name other (h.0 refl))
 spelt_same false name other h = elim (cases_Bool (is_name name other)) [
@@ -26,7 +26,7 @@ spelt_same false name other h = elim (cases_Bool (is_name name other)) [
 pub name_same : (parent under : ℕ) (name other : Name) (b : Bool) → parent ≡ under → (b ≡ true) ↔ (name ≡ other) → b ≡ are_same (AtName parent name) (AtName under other)
 name_same parent under name other b e h = spelt_same b name other h ∙ ap (λ p. p && is_name name other) (sym (eq-eqb parent under e))
 
--- the one location at or under the one node
+-- the only location is at or under the only node
 under_only : (n : ℕ) (l m : Location) → base_of l ≡ n → Contains (l ∷ []) m → Contains (n ∷ []) (base_of m)
 under_only n l m base h = subst (λ k. Contains (n ∷ []) k) (sym base ∙ ap base_of (only_in l m h)) (first_in n [])
 
@@ -57,7 +57,7 @@ name_is_row parent name c opens = record {
   beside = λ l h. absurd (none_in l h);
 }
 
--- each name beside the one that goes is under the same node
+-- each candidate is under the same node as the name that is removed or replaced
 beside_under : (parent : ℕ) (name : Name) (others : List Name) (l : Location) → Contains (AtName parent name ∷ names_under parent others) l → Contains (parent ∷ []) (base_of l)
 beside_under parent name others l h = elim (cases_in (AtName parent name) (names_under parent others) l h) [
   | inl e ↦ subst (λ k. Contains (parent ∷ []) k) (ap base_of e) (first_in parent [])
@@ -174,7 +174,7 @@ closed_covered number cases.Pathless n h = absurd (none_in n h)
 closed_covered number cases.Last n h = inr (any_first (λ l. base_of l ≡ n) (AtNode number) [] (only_in number n h))
 closed_covered number (cases.Hiding m k) n h = absurd (none_in n h)
 
--- a file that is closed asks for what its node does, for its removal, or for nothing
+-- closing a file reserves what its node does, or its removal, or nothing
 closed_is_row : (number : ℕ) (c : Case) (used : Option Used) (closes : Option ℕ) → IsGrounded (record (closed_footprint number c) { used = used; closes = closes })
 closed_is_row number c used closes = record {
   shared = closed_sharing number c;

@@ -1,4 +1,4 @@
--- A gathering with one location more.
+-- What was collected, with one more location.
 use Rattle.std.proofs.Common.{ℕ, ◌+◌, ◌<◌, ◌≡◌, ◌↔◌, ◌||◌, Bool, true, false, List, [], ◌∷◌, ◌++◌, Option, Some, None, All, Contains, length, get_or, take, refl, sym, ap, ◌∙◌, subst, ◌⊎◌, inl, inr, arith}
 use Rattle.std.specs.Prelude.{Any, is_none, map}
 use Rattle.std.proofs.lemmas.Bool.{false≢true, true≢false}
@@ -27,7 +27,7 @@ use Rattle.table_footprints.proofs.Members.{any_in, any_none, any_push, contains
 
 -- ---- lists
 
--- one location more of those that the code has
+-- one more location of those that the code has
 pub told_more : (ls : List told_location.Location) (i : ℕ) (l : told_location.Location) → i < length ls → l ≡ get_or ls i l → told (take (i + 1) ls) ≡ told (take i ls) ++ location_of l ∷ []
 told_more ls i l within read =
     ap told (take_more ls i l within ∙ ap (λ (x : told_location.Location). take i ls ++ x ∷ []) (sym read)) ∙ map-append (λ x. location_of x) (take i ls) (l ∷ [])
@@ -35,7 +35,7 @@ told_more ls i l within read =
 pub told_in : (ls : List told_location.Location) (i : ℕ) (l : told_location.Location) → i < length ls → l ≡ get_or ls i l → Contains (told ls) (location_of l)
 told_in ls i l within read = map_in (λ x. location_of x) ls l (contains_read ls i l l within read refl)
 
--- one of some that is refused
+-- one of several that is refused
 pub bad_row : (at : Lookup) (ls : List Location) (l : Location) (r : FootprintRefusal) → Contains ls l → IsBadPath at l r → IsBadFootprint at ls r
 bad_row at ls l refusal.Stale here bad = absurd bad
 bad_row at ls l refusal.TooLong here bad = any_in (IsLongPath at) ls l here bad
@@ -43,7 +43,7 @@ bad_row at ls l refusal.IntoItself here bad = absurd bad
 bad_row at ls l refusal.OntoFolder here bad = absurd bad
 bad_row at ls l refusal.Memory here bad = tt
 
--- who is in one list or the other
+-- membership in one list or the other
 pub joined : {X A B : Type 0} → (xs ys : List X) (x : X) → Contains xs x ↔ A → Contains ys x ↔ B → Contains (xs ++ ys) x ↔ (A ⊎ B)
 joined xs ys x a b = (
   λ h. elim (Contains-append_cases xs ys x h) [ inl left ↦ inl (a.0 left) | inr right ↦ inr (b.0 right) ],
@@ -76,7 +76,7 @@ pin_two xs a b o same n =
       ],
     )
 
--- ---- what is held of one location
+-- ---- what is held for one location
 
 module _ (at : Lookup) (tree : IsTree at) (l : Location) (f : AtLocation) (found : IsFound at l f) where
   shared_here : (hold : HoldMode) (p : Names) → Contains (prefixes (shared_path hold f)) p ↔ IsSharedAt at hold p l

@@ -1,4 +1,4 @@
--- What the last opening of a hidden file asks for.
+-- What closing the last handle of a hidden file reserves.
 use Rattle.std.proofs.Common.{ℕ, true, ◌≤◌, ◌≡◌, ◌≢◌, ◌↔◌, ◌++◌, List, [], ◌∷◌, All, Contains, reverse, refl, sym, ap, ◌∙◌, subst, inl, inr, arith}
 use Rattle.std.specs.Prelude.{map}
 use Rattle.std.proofs.lemmas.Bool.{true≢false}
@@ -21,9 +21,9 @@ use Rattle.table_footprints.proofs.Agreeing.{prefix_above}
 use Rattle.table_footprints.proofs.Finding.{location_once}
 use Rattle.table_footprints.proofs.Members.{any_first, any_none, any_only, first_in, only_in}
 
--- ---- what is above a node
+-- ---- the path above a node
 
--- a path that is not the root's is that of its parent, and then its name
+-- a path other than the root's is the path of the parent followed by a name
 split : (at : Lookup) (n : ℕ) (way : Names) → n ≢ 1 → Reaches at 1 n way → (path : Names) → path ≡ reverse way → (up : Names) × (name : Name) × (path ≡ up ++ name ∷ [])
 split at n [] other leads path is = absurd (other leads)
 split at n (name ∷ way) other leads path is = (reverse way, name, is ∙ reverse-append (name ∷ []) way)
@@ -56,7 +56,7 @@ module _ (at : Lookup) (tree : IsTree at) (number : ℕ) (path : Names) (leads :
       let it = parted at number path other leads in
       subst (λ (q : Names). Contains (prefixes q) p ↔ IsAboveAt at p (AtNode number)) (sym (is it.0 it.1 it.2)) (above_is it.0 it.1 it.2 p)
 
-  -- ---- what it asks for
+  -- ---- what it reserves
 
   abbrev footprint : Footprint
   footprint = closed_footprint number cases.Last

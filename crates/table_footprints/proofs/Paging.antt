@@ -1,4 +1,4 @@
--- What was found at the names of a page is what its footprint asks for.
+-- What was found at the names of a page is what its footprint reserves.
 use Rattle.std.proofs.Common.{ℕ, ◌+◌, ◌*◌, ◌<◌, ◌≤◌, ◌≡◌, ◌↔◌, ◌++◌, List, [], ◌∷◌, Contains, length, get_or, take, refl, sym, ap, ◌∙◌, subst, inl, inr, arith}
 use Rattle.std.specs.Prelude.{map}
 use Rattle.std.specs.List.{AllZip}
@@ -38,7 +38,7 @@ name_in folder names name h = later_in (AtNode folder) (page_names folder names)
 -- ---- what was found
 
 module _ (at : Lookup) (tree : IsTree at) (folder : ℕ) where
-  -- the folder alone
+  -- the folder only
   pub page_start : (room : ℕ) (none one : Gathering) (f : AtLocation) → IsNoGathering room none → IsFound at (AtNode folder) f → Adds none folder f Shared one → IsPage at folder [] one
   page_start room none one f empty found adds =
       let is : IsGathering at Shared (AtNode folder ∷ []) one = draft_more at tree (AtNode folder) f found Shared [] none one (draft_none at Shared room none empty) adds in
@@ -60,7 +60,7 @@ module _ (at : Lookup) (tree : IsTree at) (folder : ℕ) where
         );
       }
 
-  -- one name more
+  -- one more name
   pub page_more : (ls : List Location) (l : Location) (f : AtLocation) (old new : Gathering) → IsPage at folder ls old → IsFound at l f → AddsName old f new → IsPage at folder (ls ++ l ∷ []) new
   page_more ls l f old new is found adds = record {
     numbers = ap (λ (leads : List GivenPath). map (λ (lead : GivenPath). lead.number) leads) adds.given ∙ is.numbers;
@@ -106,7 +106,7 @@ module _ (at : Lookup) (tree : IsTree at) (folder : ℕ) where
     page_bad leads refusal.OntoFolder bad = absurd bad
     page_bad leads refusal.Memory bad = no_memory refl (page_rooted leads)
 
-    -- ---- what it asks for
+    -- ---- what it reserves
 
     many : length (page_keys folder names) ≡ length names
     many = length-map names (λ (name : Name). let key : Key = record { parent = folder; name = name } in key)

@@ -1,4 +1,4 @@
--- What the closing of a file asks for.
+-- What closing a file reserves.
 use Rattle.std.proofs.Common.{ℕ, Bool, false, true, ◌↔◌, ◌≤◌, ◌≡◌, ◌⊎◌, [], Some, reverse, refl, sym, ap, ◌∙◌, subst, inl, inr, arith}
 use Rattle.std.proofs.lemmas.Bool.{cases_Bool, cases_eq, cases_lt}
 use Rattle.std.proofs.lemmas.Option.{none-some, same_Some}
@@ -35,7 +35,7 @@ use Rattle.table_footprints.specs.Footprints.{AtNode, closed_footprint, node_foo
 use Rattle.table_footprints.proofs.Finding.{location_once, way_or_cut}
 use Rattle.table_footprints.proofs.Members.{first_in, none_in, only_in}
 
--- ---- whether a path leads to a node that is not too long
+-- ---- whether the node has a path that is not too long
 
 module _ (at : Lookup) (tree : IsTree at) (number : ℕ) where
   short_leads : HasShortPath at number → Leads at number
@@ -61,7 +61,7 @@ module _ (at : Lookup) (tree : IsTree at) (number : ℕ) where
     | inr (x, here) ↦ by_place x here x.place refl
   ]
 
-  -- ---- whether it is the last opening of a hidden file
+  -- ---- whether it is the last handle of a hidden file
 
   other_count : (files : Files) (total : ℕ) → IsSum files (of_node number) total → (total ≡ 1 → ⊥) → IsLastOpening at files number → ⊥
   other_count files total sum other last = other (sum_once files (of_node number) total 1 sum last.one)
@@ -118,7 +118,7 @@ module _ (at : Lookup) (tree : IsTree at) (number : ℕ) where
   no_short r (inl e) unsound = no_stale (subst (λ (q : FootprintRefusal). IsUnsound at (node_footprint number) (refusal_errno q)) e unsound)
   no_short r (inr e) unsound = no_long (subst (λ (q : FootprintRefusal). IsUnsound at (node_footprint number) (refusal_errno q)) e unsound)
 
-  -- the same of the fault of the tree
+  -- the same for the fault of the tree
   pub no_fault : (e : TreeFault) → IsPathFault at number e → TellsPath at number (refusal_of e)
   no_fault fault.Unknown bad told short = let it = climbs_alive at tree.rooted (reverse short.0) number short.1 in none-some it.0 (sym bad ∙ it.1)
   no_fault fault.Cut bad told short = way_or_cut at number tree (reverse short.0) short.1 bad.0 bad.1 bad.2
@@ -138,16 +138,16 @@ module _ (at : Lookup) (tree : IsTree at) (number : ℕ) where
   starved files fh cases.Last fits = no_memory refl (λ s. rooted fits.0 (record { number = s.number; named = s.named; lost = s.lost }))
   starved files fh (cases.Hiding n k) bad = absurd bad
 
--- want of memory
+-- out of memory
 pub closing_refused : (seen : Seen) → IsTree seen.at → (many : ℕ) → IsSum seen.files (λ file. 1) many → (want : Want) (number fh : ℕ) (r : FootprintRefusal) → want ≡ wants.Release number fh → r ≡ refusal.Memory → IsRefusedRequest seen want (refusal_errno r)
 closing_refused seen tree many sum want number fh r is starving =
     let it = closing_there seen.at tree number seen.files many sum in
     subst (λ (q : FootprintRefusal). IsRefusedRequest seen want (refusal_errno q)) (sym starving) (subst (λ (v : Want). IsRefusedRequest seen v (refusal_errno refusal.Memory)) (sym is)
     (record { footprint = footprint_of (wants.Release number fh) it.0; footprint_is = record { case = it.0; fits = it.1; footprint = refl }; unsound = starved seen.at tree number seen.files fh it.0 it.1 }))
 
--- ---- what it asks for
+-- ---- what it reserves
 
--- the node's path, as that of any node
+-- the path of the node, as for any node
 pub closing_plain : (at : Lookup) (number : ℕ) (t : Reservation) → t.case ≡ cases.Plain → HasShortPath at number → IsReservation at (node_footprint number) t → IsClosingPath at number false t
 closing_plain at number t is short reservation = record {
   case_is = is;
@@ -155,7 +155,7 @@ closing_plain at number t is short reservation = record {
   reservation = subst (λ (c : Case). IsReservation at (closed_footprint number c) t) (sym is) reservation;
 }
 
--- or its removal, where it is the last opening
+-- or its removal, if it is the last handle
 pub closing_path : (at : Lookup) (files : Files) (number : ℕ) (last : Bool) (t : Reservation) → (last ≡ true) ↔ IsLastOpening at files number → IsClosingPath at number last t → IsClosing at files number t
 closing_path at files number true t whether is = record { fits = subst (λ (c : Case). IsClosingCase at files number c) (sym is.case_is) (is.short, whether.0 refl); reservation = is.reservation }
 closing_path at files number false t whether is = record { fits = subst (λ (c : Case). IsClosingCase at files number c) (sym is.case_is) (is.short, λ last. false≢true (whether.1 last)); reservation = is.reservation }
@@ -166,7 +166,7 @@ closing_nothing at files number t is none = record {
   reservation = subst (λ (c : Case). IsReservation at (closed_footprint number c) t) (sym is.case_is) (is.reservation at);
 }
 
--- the path of the node, where it is not refused
+-- the path of the node, if it is not refused
 pub short_of : (at : Lookup) (number : ℕ) (t : Reservation) → IsReservation at (node_footprint number) t → HasShortPath at number
 short_of at number t reservation =
     let it = reservation.paths in

@@ -1,4 +1,5 @@
--- What was found at a name that goes, and at those beside it, is what the footprint of its want asks for.
+-- What was found at a name that is removed or replaced, and at the other names in its folder, is what the footprint of
+-- its want reserves.
 use Rattle.std.proofs.Common.{ℕ, ℤ, ◌+◌, ◌≤◌, ◌<◌, ◌≡◌, ◌↔◌, ◌++◌, ◌⊎◌, Bool, true, List, [], ◌∷◌, Contains, length, get_or, take, refl, sym, ap, ◌∙◌, subst, inl, inr, arith}
 use Rattle.std.specs.Prelude.{Any, map}
 use Rattle.std.specs.List.{AllZip}
@@ -38,7 +39,7 @@ pub plain_case : (at : Lookup) → IsTree at → (all : Opened) → AreOpenEntri
 plain_case at tree all filed counter parent name may_hide n named shut may m other is_open =
     shut (may, (filed.opens n).1 (subst (λ k. IsOpen all.at k) (sym (tree.apart n m parent name named other)) is_open))
 
--- where a node stands at the name
+-- the name has a node
 pub case_of : (at : Lookup) → IsTree at → (all : Opened) → AreOpenEntries all → (counter parent : ℕ) (name : Name) (may_hide : Bool) (n : ℕ) → IsNamed at n parent name
     → ((may_hide ≡ true) × (all.opened n ≡ true)) ⊎ ((may_hide ≡ true) × (all.opened n ≡ true) → ⊥) → (c : Case) × IsHidingCase (record { at = at; files = all.at; counter = counter }) parent name may_hide c
 case_of at tree all filed counter parent name may_hide n named (inl both) = (cases.Hiding n counter, (both.0, refl, named, (filed.opens n).0 both.1))
@@ -50,7 +51,7 @@ whether a b = elim (cases_Bool a) [
   | inr no' ↦ inr (λ both. false≢true (sym no' ∙ both.0))
 ]
 
--- a name that goes has a case
+-- a name that is removed or replaced has a case
 pub hiding_there : (at : Lookup) (living counts : ℕ) → IsTree at → IsCensus at living counts → (all : Opened) → AreOpenEntries all → (counter parent : ℕ) (name : Name) (may_hide : Bool)
     → (c : Case) × IsHidingCase (record { at = at; files = all.at; counter = counter }) parent name may_hide c
 hiding_there at living counts tree census all filed counter parent name may_hide = elim (named_or_free at living counts tree census parent name) [
@@ -73,13 +74,13 @@ module _ (ls : List Location) (folder : ℕ) where
   pub beside_in : (names : List Name) (name : Name) → Contains names name → Contains (ls ++ names_under folder names) (AtName folder name)
   beside_in names name h = Contains-append_right ls (names_under folder names) (AtName folder name) (map_in (λ x. AtName folder x) names name h)
 
-  -- the node that the names are under leads to the root
+  -- the parent of the names leads to the root
   pub folder_leads : (at : Lookup) → AreRooted at ls → Contains (map (λ l. base_of l) ls) folder → Leads at folder
   folder_leads at rooted h =
       let it = in_map (λ l. base_of l) ls folder h in
       subst (λ n. Leads at n) it.2 (all_in (IsRootedAt at) ls it.0 rooted it.1)
 
--- some of more locations
+-- some location among more
 any_more : (P : Location → Type 0) (ls more : List Location) → Any P ls → Any P (ls ++ more)
 any_more P ls more h = let it = in_any P ls h in any_in P (ls ++ more) it.0 (Contains-append_left ls more it.0 it.1) it.2
 
@@ -92,7 +93,7 @@ bad_more at ls more refusal.Memory bad = tt
 
 -- ---- what was found
 
--- what stands at the locations of the footprint, all of them held exclusively
+-- what is at the locations of the footprint, which are all held exclusively
 pub gathered_start : (at : Lookup) (ls : List Location) (x : Gathering) → IsGathering at Exclusive ls x → IsGathered at ls ls x
 gathered_start at ls x is = record {
   numbers = is.numbers;
@@ -114,7 +115,7 @@ gathered_start at ls x is = record {
   );
 }
 
--- one name more beside them
+-- one more name in the folder
 pub gathered_more : (at : Lookup) → IsTree at → (ls all : List Location) (l : Location) (f : AtLocation) (old new : Gathering) → IsGathered at ls all old → IsFound at l f → AddsBeside old f new → IsGathered at ls (all ++ l ∷ []) new
 gathered_more at tree ls all l f old new is found adds = record {
   numbers = ap (λ (leads : List GivenPath). map (λ (lead : GivenPath). lead.number) leads) adds.given ∙ is.numbers;
@@ -184,9 +185,9 @@ module _ (at : Lookup) (tree : IsTree at) (ls : List Location) (change : told_ch
   pub going_wrong : (paths : List Names) → AreRooted at ls → AllZip (IsShortPath at) all paths → (e : ℤ) → IsWrongChange change paths e → IsUnsound at d e
   going_wrong paths rooted zip e wrong = misplaced (going_rooted rooted) (going_short paths zip) (changed_wrong at tree change all paths zip e wrong)
 
-  -- ---- what it asks for
+  -- ---- what it reserves
 
-  -- a name beside them is under a node of theirs
+  -- each name in the folder is under a node of theirs
   above_any : Contains (map (λ l. base_of l) ls) folder → AreNames ls → (p : Names) → Any (IsAboveAt at p) all → Any (IsSharedAt at Exclusive p) ls
   above_any under names p any =
       let it = in_any (IsAboveAt at p) all any in
@@ -222,7 +223,7 @@ module _ (at : Lookup) (tree : IsTree at) (ls : List Location) (change : told_ch
     unanswered = ap (λ (g : Listed). g.items) drawn.answer;
   }
 
-  -- the paths that were found are enough for the change
+  -- there are enough paths for the change
   pub going_enough : (paths : List Names) (n : ℕ) → n ≡ length ls → AllZip (IsShortPath at) all paths → AreEnough change n → AreEnough change (length paths)
   going_enough paths n same zip h =
       enough_more change n (length paths) (omega (arith, same, length-append ls (names_under folder hidden), zip_length (IsShortPath at) all paths zip)) h

@@ -1,4 +1,4 @@
--- What a want's footprint asks for, and why it is refused.
+-- What the footprint of a want reserves, and why it is refused.
 use Rattle.std.proofs.Common.{ℕ, ℤ, ◌≡◌, ◌&&◌, Bool, not, List, [], ◌∷◌, Option, Some, Contains, refl, sym, ap, ◌∙◌, subst, ◌⊎◌, inl, inr}
 use Rattle.std.specs.Prelude.{IsSome}
 use Rattle.std.proofs.lemmas.Bool.{cases_Bool, cases_eq, false≢true}
@@ -29,7 +29,7 @@ use Rattle.table_footprints.specs.NewRequests.{IsNewRequest, IsRefusedRequest, c
 use Rattle.table_footprints.specs.Footprints.{Footprint, AtName, AtNode, Opening, Used, are_same, exchange_footprint, hidden_in, move_footprint, name_footprint, node_footprint, removal_footprint, footprint_of, used_on}
 use Rattle.table_footprints.proofs.Members.{all_in, any_only, cases_in, first_in, later_in, none_in}
 
--- ---- whether a node stands at a name
+-- ---- whether a name has a node
 
 -- the name of the node, or another
 named_so : (x : Place) (parent : ℕ) (name : Name) → (x ≡ place.Named (record { parent = parent; name = name })) ⊎ (x ≡ place.Named (record { parent = parent; name = name }) → ⊥)
@@ -88,12 +88,12 @@ entry_case at parent name (cases.Hiding n k) bad = absurd bad
 pub entry_there : (at : Lookup) (living counts : ℕ) → IsTree at → IsCensus at living counts → (parent : ℕ) (name : Name) → (c : Case) × IsEntryCase at parent name c
 entry_there at living counts tree census parent name = elim (named_or_free at living counts tree census parent name) [ inl named ↦ (cases.Plain, named) | inr free ↦ (cases.Absent, free) ]
 
--- a want that has a case is refused where each case is
+-- a want that has a case is refused if each case is
 pub refused_as : (seen : Seen) (want w : Want) (e : ℤ) → want ≡ w → (c : Case) × IsCase seen w c → ((c : Case) → IsUnsound seen.at (footprint_of w c) e) → IsRefusedRequest seen want e
 refused_as seen want w e is it unsound =
     subst (λ (v : Want). IsRefusedRequest seen v e) (sym is) (record { footprint = footprint_of w it.0; footprint_is = record { case = it.0; fits = it.1; footprint = refl }; unsound = unsound it.0 })
 
--- no test of the nodes looks at the open file that a footprint uses
+-- no test of the nodes depends on the open file that a footprint uses
 sound_using : (at : Lookup) (d : Footprint) (u : Option Used) → IsSound at d → IsSound at (record d { used = u })
 sound_using at d u sound = record {
   not_stale = λ s. sound.not_stale (record { number = s.number; named = s.named; lost = s.lost });
@@ -133,7 +133,7 @@ pub node_refused : (seen : Seen) (want : Want) (number : ℕ) (handle : Option H
 node_refused seen want number handle e is unsound =
     refused_as seen want (wants.Node number handle) e is (cases.Plain, refl) (λ c. unsound_using seen.at (node_footprint number) (used_on number handle) e unsound)
 
--- no test of the nodes looks at the file that a footprint opens
+-- no test of the nodes depends on the file that a footprint opens
 stale_opening : (at : Lookup) (d : Footprint) (o : Option Opening) → (IsStale at d → ⊥) → IsStale at (record d { opens = o }) → ⊥
 stale_opening at d o none s = none (record { number = s.number; named = s.named; lost = s.lost })
 
@@ -146,7 +146,7 @@ unsound_opening at d o e (long is a s) = long is (stale_opening at d o a) (recor
 unsound_opening at d o e (misplaced a b bad) = misplaced (stale_opening at d o a) (long_opening at d o b) bad
 unsound_opening at d o e (no_memory is a) = no_memory is (stale_opening at d o a)
 
--- one file is promised besides
+-- one file is promised in addition
 abbrev pub opening_one : Reservation → Reservation
 opening_one t = record t { promise = record t.promise { files = 1 } }
 
@@ -188,7 +188,7 @@ pub removal_refused : (seen : Seen) (want : Want) (parent : ℕ) (name : Name) (
 removal_refused seen want parent name may_hide e c is fits unsound =
     subst (λ (v : Want). IsRefusedRequest seen v e) (sym is) (record { footprint = removal_footprint parent name (hidden_in c); footprint_is = record { case = c; fits = fits; footprint = refl }; unsound = unsound })
 
--- what stands at the target of a move may be hidden, where the source is elsewhere and the target need not be kept
+-- what is at the target of a move may be hidden if the source is a different name and the target need not be kept
 module _ (seen : Seen) (want : Want) (parent : ℕ) (name : Name) (new_parent : ℕ) (new_name : Name) (keep may_hide : Bool)
     (is : want ≡ wants.Move parent name new_parent new_name keep) (apart : may_hide ≡ (not keep && not (are_same (AtName parent name) (AtName new_parent new_name)))) where
   pub move_wanted : (t : Reservation) → IsHidingCase seen new_parent new_name may_hide t.case → IsReservation seen.at (move_footprint parent name new_parent new_name (hidden_in t.case)) t → IsWanted seen want t
@@ -202,7 +202,7 @@ module _ (seen : Seen) (want : Want) (parent : ℕ) (name : Name) (new_parent : 
     unsound = unsound;
   })
 
--- two names that change places are one case
+-- an exchange has only one case
 module _ (seen : Seen) (want : Want) (parent : ℕ) (name : Name) (new_parent : ℕ) (new_name : Name) (is : want ≡ wants.Exchange parent name new_parent new_name) where
   pub exchange_wanted : (t : Reservation) → t.case ≡ cases.Plain → IsReservation seen.at (exchange_footprint parent name new_parent new_name) t → IsWanted seen want t
   exchange_wanted t fits reservation = subst (λ (v : Want). IsWanted seen v t) (sym is) (record { fits = fits; reservation = reservation })
@@ -210,7 +210,7 @@ module _ (seen : Seen) (want : Want) (parent : ℕ) (name : Name) (new_parent : 
   pub exchange_refused : (e : ℤ) → IsUnsound seen.at (exchange_footprint parent name new_parent new_name) e → IsRefusedRequest seen want e
   exchange_refused e unsound = refused_as seen want (wants.Exchange parent name new_parent new_name) e is (cases.Plain, refl) (λ c. unsound)
 
--- the record of a request as its want's footprint asks for it
+-- the record of a request, as the footprint of its want asks for it
 pub planned : (seen : Seen) (want : Want) (t : Reservation) (p : NewRequest) → IsWanted seen want t → IsRecord want t p → IsNewRequest seen want p
 planned seen want t p wanted made =
     let footprint : (w : Work) → w ≡ record { want = want; case = t.case; copy = copied want; candidates = hidden_in t.case; copies = copied_page want t.case; held = t.held; promise = t.promise; answer = t.answer } → IsNewRequest seen want (record { work = w; pins = t.pins; paths = t.paths })

@@ -1,5 +1,5 @@
--- What a want asks of a table: one footprint for each want. What a beginning tests, holds, pins and promises, and what an
--- outcome does, follow from the footprint alone.
+-- What a want reserves in a table: one footprint for each want. What a begin tests, holds, pins and promises, and what
+-- an outcome does, depends only on the footprint.
 use Rattle.std.specs.Prelude.{ℕ, zero, suc, ◌++◌, ◌==◌, ◌&&◌, Bool, true, false, List, [], ◌∷◌, Option, Some, None, length, map}
 use Rattle.table_files.specs.declared.data.Access.{Access}
 use Rattle.table_files.specs.declared.data.Need.TheVariants.{Any}
@@ -14,60 +14,61 @@ use Rattle.table_requests.specs.declared.data.Want.TheVariants as wants
 
 -- ---- footprints
 
--- where a node may stand, whether or not one does
+-- the place of a node or a name, whether or not it has a node
 pub data Location : Type 0 where
-  -- that of the node
+  -- the place of this node
   AtNode : ℕ → Location
-  -- that of a name under the node
+  -- the place of this name under this node
   AtName : ℕ → Name → Location
 
--- what becomes of names
+-- how names change
 pub data Change : Type 0 where
   stays : Change
-  -- what stands there is cut
+  -- what is there is cut
   cuts : Location → Change
-  -- what stands at the first is moved to the second, where what stood is cut
+  -- what is at the first is moved to the second, and what was at the second is cut
   moves : Location → Location → Change
-  -- what stands at the first is moved to the second, where what stood is cut, and has a hidden mark
+  -- what is at the first is moved to the second and gets a hidden mark, and what was at the second is cut
   hides : Location → Location → Change
-  -- what stands at the second is hidden at the third, and then, where it is so told, what stood at the first is moved to the second
+  -- what is at the second is hidden at the third, and then, if so requested, what was at the first is moved to the
+  -- second
   replaces : Location → Location → Location → Bool → Change
-  -- what stands at either is moved to the other
+  -- what is at either is moved to the other
   exchanges : Location → Location → Change
 
--- a file that may be opened: of the node that stands there
+-- a file that may be opened: of the node at that place
 pub record Opening : Type 0 where
   pub target : Location
   pub access : Access
 
--- a handle that is to be that of an open file of the node
+-- a handle that must be of an open file of the node
 pub record Used : Type 0 where
   pub number : ℕ
   pub handle : Handle
 
 pub record Footprint : Type 0 where
-  -- the nodes that it names: each must have a path, and is pinned
+  -- the nodes that the want names: each must have a path, and is pinned
   pub given : List ℕ
-  -- the paths of its ticket: what stands at one of them is pinned
+  -- the paths of its ticket: what is at one of them is pinned
   pub paths : List Location
   -- each nonempty prefix of these paths is shared
   pub shared : List Location
-  -- these paths are held exclusively, and each nonempty proper prefix of them is shared
+  -- these paths are held exclusively, and their nonempty proper prefixes are shared
   pub exclusive : List Location
   -- the names for which an entry may be given, and how many nodes may be born for them
   pub entries : List Key
   pub births : ℕ
-  -- whether they are the names of a page, of which some may be found
+  -- whether they are the names of a page, some of which may be found
   pub page : Bool
-  -- what becomes of the names once the work is done
+  -- how names change when the work is done
   pub done : Change
-  -- the names that an open file may be hidden under
+  -- the candidates under which an open file may be hidden
   pub candidates : List Location
   -- the file that may be opened
   pub opens : Option Opening
-  -- the open file that it uses
+  -- the open file that the want uses
   pub used : Option Used
-  -- the handle that is closed when it begins
+  -- the handle that is closed when the request begins
   pub closes : Option ℕ
 
 abbrev pub no_footprint : Footprint
@@ -75,7 +76,7 @@ no_footprint = record { given = []; paths = []; shared = []; exclusive = []; ent
 
 -- ---- cases
 
--- where no node stands at its name, one may be born
+-- if its name has no node, one may be born
 abbrev pub births_in : Case → ℕ
 births_in cases.Plain = 0
 births_in cases.Absent = 1
@@ -97,12 +98,12 @@ name_footprint parent name c = record no_footprint {
   births = births_in c;
 }
 
--- the names from that counter on that a file of the node may be hidden under, so many of them
+-- that many candidates under which a file of the node may be hidden, from that counter on
 unfoldable pub hidden_names : ℕ → ℕ → ℕ → List Name
 hidden_names number counter zero = []
 hidden_names number counter (suc k) = hidden_names number counter k ++ hidden_name number (candidate counter k) ∷ []
 
--- ten of them, where a file may have to be hidden
+-- ten of them, if a file may have to be hidden
 abbrev pub hidden_in : Case → List Name
 hidden_in cases.Plain = []
 hidden_in cases.Absent = []
@@ -145,7 +146,7 @@ abbrev pub used_on : ℕ → Option Handle → Option Used
 used_on number None = None
 used_on number (Some handle) = Some (record { number = number; handle = handle })
 
--- the names of a page: their paths are told, and nothing is held of them
+-- the names of a page: their paths are in the ticket, and they are not held
 abbrev pub page_names : ℕ → List Name → List Location
 page_names folder names = map (λ name. AtName folder name) names
 
@@ -175,7 +176,7 @@ closed_at number cases.Pathless = []
 closed_at number cases.Last = AtNode number ∷ []
 closed_at number (cases.Hiding n counter) = []
 
--- whose path is shared, or is held exclusively where the file goes with its last opening
+-- whose path is shared, or held exclusively if the file is removed with its last handle
 abbrev pub closed_shared : ℕ → Case → List Location
 closed_shared number cases.Plain = AtNode number ∷ []
 closed_shared number cases.Absent = AtNode number ∷ []
@@ -197,7 +198,7 @@ closed_change number cases.Pathless = stays
 closed_change number cases.Last = cuts (AtNode number)
 closed_change number (cases.Hiding n counter) = stays
 
--- a file that is closed: what its node asks for, the removal of its node, or nothing
+-- a file that is closed: it reserves what its node does, or the removal of its node, or nothing
 abbrev pub closed_footprint : ℕ → Case → Footprint
 closed_footprint number c = record no_footprint {
   given = closed_on number c;
@@ -207,7 +208,7 @@ closed_footprint number c = record no_footprint {
   done = closed_change number c;
 }
 
--- a handle that is closed may be open for anything
+-- a handle that is closed may be open with any access
 abbrev pub closing : ℕ → ℕ → Used
 closing number fh = record { number = number; handle = record { fh = fh; need = Any } }
 
@@ -222,7 +223,7 @@ footprint_of (wants.Open number access) c = record (node_footprint number) { ope
 footprint_of (wants.Create parent name access) c = record (name_footprint parent name c) { opens = Some (record { target = AtName parent name; access = access }) }
 footprint_of (wants.Release number fh) c = record (closed_footprint number c) { used = Some (closing number fh); closes = Some fh }
 
--- ---- what a ticket tells of its footprint
+-- ---- what a ticket shows of its footprint
 
 abbrev pub are_same : Location → Location → Bool
 are_same (AtName p a) (AtName q b) = (p == q) && is_name a b
@@ -230,7 +231,7 @@ are_same (AtName p a) (AtNode m) = false
 are_same (AtNode n) (AtName q b) = false
 are_same (AtNode n) (AtNode m) = n == m
 
--- whether a name would be moved to itself, or change places with itself
+-- whether a name would be moved to itself, or exchanged with itself
 abbrev pub is_same : Change → Bool
 is_same stays = false
 is_same (cuts l) = false

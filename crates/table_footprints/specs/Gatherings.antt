@@ -1,4 +1,4 @@
--- What the code gathers of a footprint, location by location.
+-- What the code collects for a footprint, location by location.
 use Rattle.std.specs.Prelude.{ℕ, ℤ, ◌+◌, ◌*◌, ◌<◌, ◌≤◌, ◌≡◌, ◌↔◌, ◌⊎◌, ◌||◌, ◌&&◌, Bool, true, false, if◌then◌else◌, List, [], ◌∷◌, ◌++◌, Some, None, All, Any, Contains, is_none, length, map}
 use Rattle.std.specs.List.{AllZip}
 use Rattle.errno.specs.declared.TheConstants.{EINVAL, ENAMETOOLONG, ENOMEM, ENOTEMPTY, ESTALE}
@@ -48,7 +48,7 @@ refusal_of fault.PathLong = refusal.TooLong
 refusal_of fault.Full = refusal.Memory
 refusal_of fault.Memory = refusal.Memory
 
--- ---- footprints of the code as footprints
+-- ---- the footprints of the code as footprints
 
 abbrev pub location_of : told_location.Location → Location
 location_of (locations.AtNode number) = AtNode number
@@ -106,7 +106,7 @@ footprint_from footprint c = footprint_by (locations_of footprint) footprint.hol
 abbrev pub entries_of : UniformFootprint → ℕ
 entries_of footprint = if footprint.enters then 1 else 0
 
--- ---- what a footprint must keep
+-- ---- conditions on footprints
 
 abbrev pub AreNames : List Location → Type 0
 AreNames [] = Unit {0}
@@ -119,7 +119,7 @@ IsOneName (AtNode number ∷ ls) = ⊥
 IsOneName (AtName parent name ∷ []) = Unit {0}
 IsOneName (AtName parent name ∷ l ∷ ls) = ⊥
 
--- an entry may be given for a name alone
+-- an entry may be given only for a name
 abbrev pub IsEntered : Bool → List Location → Type 0
 IsEntered true ls = IsOneName ls
 IsEntered false ls = Unit {0}
@@ -131,7 +131,7 @@ AreEnough Cuts n = Unit {0}
 AreEnough Moves n = 2 ≤ n
 AreEnough Exchanges n = 2 ≤ n
 
--- only names are held exclusively, and an entry is given for a name alone
+-- only names are held exclusively, and an entry is given only for a name
 pub record IsFit (footprint : UniformFootprint) : Type 0 where
   pub some : 0 < length footprint.locations.now
   pub few : length footprint.locations.now ≤ 2
@@ -141,7 +141,7 @@ pub record IsFit (footprint : UniformFootprint) : Type 0 where
 
 -- ---- what is found
 
--- no way leads from the location's node to the root
+-- the node of the location does not lead to the root
 abbrev pub IsLost : Lookup → Location → Type 0
 IsLost at l = Leads at (base_of l) → ⊥
 
@@ -154,7 +154,7 @@ AreRooted at ls = All (IsRootedAt at) ls
 abbrev pub IsLongPath : Lookup → Location → Type 0
 IsLongPath at l = (path : Names) × HasPath at l path × (4096 < path_bytes path)
 
--- why a location with a way to the root is refused, and why one of some is
+-- why a location that leads to the root is refused, and why one of several is
 abbrev pub IsBadPath : Lookup → Location → FootprintRefusal → Type 0
 IsBadPath at l refusal.Stale = ⊥
 IsBadPath at l refusal.TooLong = IsLongPath at l
@@ -181,7 +181,7 @@ CanMove source target = (e : ℤ) → IsRefusedMove source target e → ⊥
 abbrev pub AreExchangeable : Names → Names → Type 0
 AreExchangeable source target = (e : ℤ) → IsRefusedExchange source target e → ⊥
 
--- what the paths of a change must keep, and why they do not
+-- the condition on the paths of a change, and why they do not satisfy it
 abbrev pub MayChange : told_change.ChangeKind → List Names → Type 0
 MayChange Stays paths = Unit {0}
 MayChange Cuts paths = Unit {0}
@@ -202,7 +202,7 @@ IsWrongChange Exchanges [] e = ⊥
 IsWrongChange Exchanges (p ∷ []) e = ⊥
 IsWrongChange Exchanges (p ∷ q ∷ paths) e = IsRefusedExchange p q e
 
--- ---- drafts
+-- ---- what was collected
 
 -- the path whose nonempty prefixes are shared, and those that are held exclusively
 abbrev pub shared_path : HoldMode → AtLocation → Names
@@ -213,7 +213,7 @@ abbrev pub own_paths : HoldMode → AtLocation → List Names
 own_paths Shared f = []
 own_paths Exclusive f = f.path ∷ []
 
--- one location more
+-- one more location
 pub record Adds (old : Gathering) (number : ℕ) (f : AtLocation) (hold : HoldMode) (new : Gathering) : Type 0 where
   pub given : new.given ≡ old.given ++ record { number = number; path = f.above } ∷ []
   pub shared : new.shared ≡ old.shared ++ prefixes (shared_path hold f)
@@ -237,14 +237,14 @@ IsPinAt at n l = (base_of l ≡ n) ⊎ IsThere at l n
 abbrev pub IsShortPath : Lookup → Location → Names → Type 0
 IsShortPath at l p = HasPath at l p × (path_bytes p ≤ 4096)
 
--- no node stands there, and some node does
+-- the location has no node, and some location has none
 abbrev pub HasNoNode : Lookup → Location → Type 0
 HasNoNode at l = (n : ℕ) → IsThere at l n → ⊥
 
 abbrev pub IsTaken : Lookup → Location → Type 0
 IsTaken at l = (n : ℕ) × IsThere at l n
 
--- all that was found at these locations
+-- everything that was found at these locations
 pub record IsGathering (at : Lookup) (hold : HoldMode) (ls : List Location) (x : Gathering) : Type 0 where
   pub numbers : map (λ (lead : GivenPath). lead.number) x.given ≡ map (λ l. base_of l) ls
   pub leads : All (λ (lead : GivenPath). IsPathOf at lead.number lead.path) x.given
@@ -263,7 +263,7 @@ pub record IsNoGathering (room : ℕ) (x : Gathering) : Type 0 where
   pub pins : x.pins ≡ record { numbers = []; room = room }
   pub absent : x.absent ≡ false
 
--- ---- terms
+-- ---- reservations
 
 pub record IsReserved (x : Gathering) (case : Case) (births entries : ℕ) (t : Reservation) : Type 0 where
   pub case_is : t.case ≡ case
@@ -273,7 +273,7 @@ pub record IsReserved (x : Gathering) (case : Case) (births entries : ℕ) (t : 
   pub pins : t.pins ≡ x.pins
   pub paths : t.paths ≡ x.paths
 
--- what the footprint asks for
+-- what the footprint reserves
 pub record IsReservation (at : Lookup) (d : Footprint) (t : Reservation) : Type 0 where
   pub sound : IsSound at d
   pub holds : Holds at d t.held
@@ -284,7 +284,7 @@ pub record IsReservation (at : Lookup) (d : Footprint) (t : Reservation) : Type 
   pub answer_room : length d.entries ≤ t.answer.room
   pub unanswered : t.answer.items ≡ []
 
--- whether a node stands at the name for which an entry may be given
+-- whether the name for which an entry may be given has a node
 abbrev pub IsEntryAt : Lookup → List Location → Case → Type 0
 IsEntryAt at ls cases.Plain = All (IsTaken at) ls
 IsEntryAt at ls cases.Absent = Any (HasNoNode at) ls
@@ -292,7 +292,7 @@ IsEntryAt at ls cases.Pathless = ⊥
 IsEntryAt at ls cases.Last = ⊥
 IsEntryAt at ls (cases.Hiding number counter) = ⊥
 
--- a birth is promised for a name at which no node stands
+-- a birth is promised for a name without a node
 abbrev pub entered_case : Bool → Bool → Case
 entered_case none enters = if none && enters then cases.Absent else cases.Plain
 
@@ -314,12 +314,12 @@ pub record IsWanted (seen : Seen) (want : Want) (t : Reservation) : Type 0 where
   pub fits : IsCase seen want t.case
   pub reservation : IsReservation seen.at (footprint_of want t.case) t
 
--- what the closing of a file of the node asks for
+-- what closing a file of the node reserves
 pub record IsClosing (at : Lookup) (files : Files) (number : ℕ) (t : Reservation) : Type 0 where
   pub fits : IsClosingCase at files number t.case
   pub reservation : IsReservation at (closed_footprint number t.case) t
 
--- the same where the node has a path that is not too long, by whether it is the last opening of a hidden file
+-- the same if the node has a path that is not too long, depending on whether this is the last handle of a hidden file
 pub record IsClosingPath (at : Lookup) (number : ℕ) (last : Bool) (t : Reservation) : Type 0 where
   pub case_is : t.case ≡ (if last then cases.Last else cases.Plain)
   pub short : HasShortPath at number
@@ -329,22 +329,22 @@ pub record IsClosingPath (at : Lookup) (number : ℕ) (last : Bool) (t : Reserva
 abbrev pub IsWithoutPath : FootprintRefusal → Type 0
 IsWithoutPath r = (r ≡ refusal.Stale) ⊎ (r ≡ refusal.TooLong)
 
--- where it says that a node has no path, or one that is too long, the node has no other
+-- if the refusal says that the node has no path, or one that is too long, the node has no other path
 abbrev pub TellsPath : Lookup → ℕ → FootprintRefusal → Type 0
 TellsPath at number r = IsWithoutPath r → HasShortPath at number → ⊥
 
--- the path of the node is held exclusively, and each nonempty prefix of that of its parent is shared
+-- the path of the node is held exclusively, and each nonempty prefix of its parent's path is shared
 pub record IsHeldExclusively (at : Lookup) (number : ℕ) (path : Names) (held : Held) : Type 0 where
   pub given : held.given ≡ record { number = number; path = path } ∷ []
   pub shared : (p : Names) → Contains held.shared p ↔ IsAboveAt at p (AtNode number)
   pub exclusive : held.exclusive ≡ path ∷ []
 
--- nothing is asked for
+-- nothing is reserved
 pub record IsNothing (t : Reservation) : Type 0 where
   pub case_is : t.case ≡ cases.Pathless
   pub reservation : (at : Lookup) → IsReservation at no_footprint t
 
--- the record of a request with that want and those terms
+-- the record of a request with that want and that reservation
 pub record IsRecord (want : Want) (t : Reservation) (p : NewRequest) : Type 0 where
   pub work : p.work ≡ record { want = want; case = t.case; copy = copied want; candidates = hidden_in t.case; copies = copied_page want t.case; held = t.held; promise = t.promise; answer = t.answer }
   pub pins : p.pins ≡ t.pins

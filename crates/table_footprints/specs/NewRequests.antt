@@ -11,11 +11,11 @@ use Rattle.table_footprints.specs.Cases.{IsCase, IsFootprint, Seen}
 use Rattle.table_requests.specs.declared.data.Case.{Case}
 use Rattle.table_footprints.specs.Footprints.{hidden_in, Footprint, footprint_of}
 
--- the footprint of a request that is worked on
+-- the footprint of a request in progress
 abbrev pub footprint_in : Work → Footprint
 footprint_in work = footprint_of work.want work.case
 
--- the name that the want may give to a node, which is put into the tree under a key and a copy of it: of an exchange the second
+-- the name that the want may give to a node, as the tree needs a key and a copy of it: for an exchange the second name
 abbrev pub copied : Want → Option Name
 copied (wants.Node number handle) = None
 copied (wants.Name parent name) = Some name
@@ -27,7 +27,8 @@ copied (wants.Open number access) = None
 copied (wants.Create parent name access) = Some name
 copied (wants.Release number fh) = None
 
--- the same of the names of a page, of those that a file may be hidden under, and of the first name of an exchange
+-- the same for the names of a page, for the candidates under which a file may be hidden, and for the first name of an
+-- exchange
 abbrev pub copied_page : Want → Case → List Name
 copied_page (wants.Node number handle) c = []
 copied_page (wants.Name parent name) c = []
@@ -39,7 +40,7 @@ copied_page (wants.Open number access) c = []
 copied_page (wants.Create parent name access) c = []
 copied_page (wants.Release number fh) c = []
 
--- its end takes no memory: there is room for what it may pin and answer
+-- its end does not allocate: there is room for what it may pin and answer
 pub record IsProvided (work : Work) (pins : Pinned) : Type 0 where
   pub promise : work.promise ≡ promise_of (footprint_in work)
   pub copy : work.copy ≡ copied work.want
@@ -49,7 +50,7 @@ pub record IsProvided (work : Work) (pins : Pinned) : Type 0 where
   pub answer_room : length (footprint_in work).entries ≤ work.answer.room
   pub unanswered : work.answer.items ≡ []
 
--- the tests of the nodes allow the want: what it holds, pins and is promised, and the paths of its ticket
+-- the tests of the nodes allow the want: what the request holds, pins and is promised, and the paths of its ticket
 pub record IsNewRequest (seen : Seen) (want : Want) (p : NewRequest) : Type 0 where
   pub want_is : p.work.want ≡ want
   pub fits : IsCase seen want p.work.case
@@ -59,7 +60,7 @@ pub record IsNewRequest (seen : Seen) (want : Want) (p : NewRequest) : Type 0 wh
   pub paths : ArePaths seen.at (footprint_in p.work).paths p.paths
   pub provided : IsProvided p.work p.pins
 
--- they refuse it, or memory was refused
+-- the tests refuse it, or memory was refused
 pub record IsRefusedRequest (seen : Seen) (want : Want) (e : ℤ) : Type 0 where
   pub footprint : Footprint
   pub footprint_is : IsFootprint seen want footprint

@@ -1,4 +1,4 @@
--- What the code gathers of a page: a folder, and names of which nothing is held.
+-- What the code collects for a page: a folder, and names that are not held.
 use Rattle.std.specs.Prelude.{ℕ, ◌+◌, ◌≡◌, ◌≤◌, ◌↔◌, ◌⊎◌, List, [], ◌∷◌, ◌++◌, Some, All, Any, Contains, map}
 use Rattle.std.specs.List.{AllZip}
 use Rattle.paths.specs.Prefixes.{Names}
@@ -10,7 +10,7 @@ use Rattle.table_footprints.specs.Asked.{IsPrefixAt, IsThere}
 use Rattle.table_footprints.specs.Gatherings.{IsShortPath}
 use Rattle.table_footprints.specs.Footprints.{Location, AtNode}
 
--- one name more, of which nothing is held
+-- one more name, which is not held
 pub record AddsName (old : Gathering) (f : AtLocation) (new : Gathering) : Type 0 where
   pub given : new.given ≡ old.given
   pub shared : new.shared ≡ old.shared
@@ -19,7 +19,7 @@ pub record AddsName (old : Gathering) (f : AtLocation) (new : Gathering) : Type 
   pub pins : (n : ℕ) → Contains new.pins.numbers n ↔ (Contains old.pins.numbers n ⊎ (f.node ≡ Some n))
   pub room : old.pins.room ≤ new.pins.room + 1
 
--- all that was found at the folder and at these names
+-- everything that was found at the folder and at these names
 pub record IsPage (at : Lookup) (folder : ℕ) (ls : List Location) (x : Gathering) : Type 0 where
   pub numbers : map (λ (lead : GivenPath). lead.number) x.given ≡ folder ∷ []
   pub leads : All (λ (lead : GivenPath). IsPathOf at lead.number lead.path) x.given

@@ -1,4 +1,5 @@
--- What the code gathers of names that go, since they are removed or replaced, and of those that a file may be hidden under.
+-- What the code collects for names that are removed or replaced, and for the candidates under which a file may be
+-- hidden.
 use Rattle.std.specs.Prelude.{ℕ, ℤ, ◌+◌, ◌≡◌, ◌≤◌, ◌↔◌, ◌⊎◌, List, [], ◌∷◌, ◌++◌, Some, All, Any, Contains, map}
 use Rattle.std.specs.List.{AllZip}
 use Rattle.paths.specs.Prefixes.{Name, Names}
@@ -18,13 +19,13 @@ use Rattle.table_footprints.specs.Gatherings.{IsFit, IsSharedAt, IsShortPath, Is
 use Rattle.table_footprints.specs.Laws.{base_of}
 use Rattle.table_footprints.specs.Footprints.{Footprint, Location, hidden_in, names_under, no_footprint}
 
--- a footprint whose names are held exclusively, one of which goes and is under that node
+-- a footprint whose names are held exclusively, and which removes or replaces a name under that node
 pub record IsGoing (footprint : UniformFootprint) (gone : Gone) : Type 0 where
   pub fit : IsFit footprint
   pub exclusive : footprint.hold ≡ Exclusive
   pub under : Contains (map (λ l. base_of l) (locations_of footprint)) gone.parent
 
--- the footprint of these locations, with names in that folder beside them
+-- the footprint of these locations, with other names in that folder
 abbrev pub going_in : List Location → told_change.ChangeKind → ℕ → List Name → Footprint
 going_in ls change folder hidden = record no_footprint {
   given = map (λ l. base_of l) ls;
@@ -37,7 +38,7 @@ going_in ls change folder hidden = record no_footprint {
 abbrev pub going_footprint : UniformFootprint → Gone → Case → Footprint
 going_footprint footprint gone c = going_in (locations_of footprint) footprint.change gone.parent (hidden_in c)
 
--- one name more that is held exclusively, beside those of the footprint
+-- one more name that is held exclusively, in addition to those of the footprint
 pub record AddsBeside (old : Gathering) (f : AtLocation) (new : Gathering) : Type 0 where
   pub given : new.given ≡ old.given
   pub shared : new.shared ≡ old.shared
@@ -46,7 +47,7 @@ pub record AddsBeside (old : Gathering) (f : AtLocation) (new : Gathering) : Typ
   pub pins : (n : ℕ) → Contains new.pins.numbers n ↔ (Contains old.pins.numbers n ⊎ (f.node ≡ Some n))
   pub room : old.pins.room ≤ new.pins.room + 1
 
--- all that was found at these locations, of which the first give their nodes
+-- everything that was found at these locations, the first of which determine the nodes
 pub record IsGathered (at : Lookup) (firsts all : List Location) (x : Gathering) : Type 0 where
   pub numbers : map (λ (lead : GivenPath). lead.number) x.given ≡ map (λ l. base_of l) firsts
   pub leads : All (λ (lead : GivenPath). IsPathOf at lead.number lead.path) x.given
@@ -55,12 +56,12 @@ pub record IsGathered (at : Lookup) (firsts all : List Location) (x : Gathering)
   pub paths : AllZip (IsShortPath at) all x.paths
   pub pins : (n : ℕ) → Contains x.pins.numbers n ↔ (Contains (map (λ l. base_of l) firsts) n ⊎ Any (λ l. IsThere at l n) all)
 
--- what the footprint asks for, in the case of the name that goes
+-- what the footprint reserves, in the case of the name that is removed or replaced
 pub record AreGoingTerms (seen : Seen) (footprint : UniformFootprint) (gone : Gone) (t : Reservation) : Type 0 where
   pub fits : IsHidingCase seen gone.parent gone.name.now gone.may_hide t.case
   pub reservation : IsReservation seen.at (going_footprint footprint gone t.case) t
 
--- why it is refused, in that case
+-- why it is refused in that case
 pub record IsRefusedGoing (seen : Seen) (footprint : UniformFootprint) (gone : Gone) (e : ℤ) : Type 0 where
   pub case : Case
   pub fits : IsHidingCase seen gone.parent gone.name.now gone.may_hide case

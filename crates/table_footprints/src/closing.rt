@@ -1,4 +1,5 @@
-//! What the closing of a file asks for: its node's path, if it has one, which is held exclusively where a hidden file goes with its last opening.
+//! What closing a file reserves: the path of its node, if it has one. The path is held exclusively if a hidden file is
+//! removed with its last handle.
 
 ghost use Rattle.std.specs.Prelude.{true, false, ◌≡◌, ◌≢◌, ◌↔◌, ◌∷◌, [], IfErr, IfOk, IsTrue};
 ghost use Rattle.table_files.specs.OpenEntry.{files_of};
@@ -18,7 +19,7 @@ use table_files::Files;
 use table_requests::{Case, Givens, Pins, Promise};
 use tree::Tree;
 
-/// Nothing is held, pinned or told.
+/// Nothing is held, pinned or put in the ticket.
 fn nothing(alloc: Global) -> Result<Reservation, FootprintRefusal>
     ensures ok { IfOk result IsNothing }
     ensures err { IfErr result (λ refusal. refusal ≡ FootprintRefusal.Memory) }
@@ -28,7 +29,7 @@ fn nothing(alloc: Global) -> Result<Reservation, FootprintRefusal>
     Ok(reservation)
 }
 
-/// Whether it says that a node has no path, or one that is too long.
+/// Whether the refusal says that the node has no path, or one that is too long.
 fn is_without_path(refusal: FootprintRefusal) -> bool
     ensures { IsTrue result ↔ IsWithoutPath refusal }
 {
@@ -39,10 +40,11 @@ fn is_without_path(refusal: FootprintRefusal) -> bool
     }
 }
 
-/// Whether the node, which is not the root, has a hidden mark, and one file of it is open.
+/// Whether the node, which is not the root, has a hidden mark and exactly one open file.
 fn is_last(tree: &Tree, files: &Files, number: u64) -> bool
     ensures { IsTrue result ↔ IsLastOpening (at_in tree.now) (files_of files.now).at number }
 {
+    // No lawful table has a mark on the root, but with this test no law of footprints depends on that.
     if number == 1 {
         return false;
     }
@@ -55,7 +57,7 @@ fn is_last(tree: &Tree, files: &Files, number: u64) -> bool
     }
 }
 
-/// The path of a node is held exclusively, and each nonempty prefix of its parent's is shared.
+/// Holds the path of a node exclusively, and shares each nonempty prefix of its parent's path.
 fn held_alone(alloc: Global, _tree: &Tree, number: u64, path: &Path) -> Result<Held, AllocError>
     requires tree { IsTree (at_in _tree.now) }
     requires not_root { number ≢ 1 }
@@ -74,7 +76,7 @@ fn held_alone(alloc: Global, _tree: &Tree, number: u64, path: &Path) -> Result<H
     })
 }
 
-/// What the last opening of a hidden file asks for: its node is removed where its work is done.
+/// What closing the last handle of a hidden file reserves: the node will be removed when the work is done.
 fn last_reservation(
     alloc: Global,
     tree: &Tree,
@@ -102,7 +104,7 @@ fn last_reservation(
     })
 }
 
-/// What any other opening asks for: that the path of its node stays.
+/// What closing any other handle reserves: the path of the node must not change.
 fn plain_reservation(
     alloc: Global,
     tree: &Tree,
@@ -120,7 +122,7 @@ fn plain_reservation(
     reservation_of(alloc, tree, &footprint)
 }
 
-/// What the closing of a file asks for whose node has a path that is not too long.
+/// What closing a file reserves if its node has a path that is not too long.
 fn path_reservation(
     alloc: Global,
     tree: &Tree,
@@ -138,7 +140,7 @@ fn path_reservation(
     }
 }
 
-/// What the closing of a file of the node asks for. Want of memory alone refuses it.
+/// What closing a file of the node reserves. Out of memory is the only error.
 pub(crate) fn closing_reservation(
     alloc: Global,
     tree: &Tree,
@@ -157,6 +159,7 @@ pub(crate) fn closing_reservation(
         Ok(reservation) => return Ok(reservation),
         Err(refusal) => refusal,
     };
+    // A RELEASE never fails for its path: if there is none to use, the handle is closed and nothing else is done.
     if is_without_path(refusal) {
         return nothing(alloc);
     }

@@ -3,7 +3,7 @@
 use holds::Paths;
 use table_requests::{Pins, Work};
 
-/// What a request is recorded with, and the paths that its ticket tells.
+/// What a request is recorded with, and the paths for its ticket.
 pub struct NewRequest {
     pub work: Work,
     pub pins: Pins,

@@ -1,4 +1,4 @@
-//! What each want asks for: one footprint of one table.
+//! The footprint of each want.
 
 ghost use Rattle.std.specs.Prelude.{◌≡◌, ◌&&◌, not, IfOk, IfErr};
 ghost use Rattle.table_footprints.specs.Cases.{seen_of};
@@ -18,17 +18,17 @@ use table_files::Files;
 use table_requests::Want;
 use tree::Tree;
 
-/// Where a node may stand, whether or not one does.
+/// The place of a node or a name, whether or not it has a node.
 #[derive(Clone, Copy)]
 pub(crate) enum Location<'a> {
-    /// That of the node.
+    /// The place of this node.
     AtNode(u64),
-    /// That of a name under the node.
+    /// The place of this name under this node.
     AtName(u64, &'a Name),
 }
 
 impl Location<'_> {
-    /// The node, or the one that the name is under.
+    /// The node, or the parent of the name.
     pub(crate) fn base(&self) -> u64
         ensures { result ≡ base_of (location_of self.now) }
     {
@@ -38,7 +38,7 @@ impl Location<'_> {
         }
     }
 
-    /// Whether both are that of one node, or that of one name under one node.
+    /// Whether both are the same node, or the same name under the same node.
     fn is(&self, other: &Location) -> bool
         ensures { result ≡ are_same (location_of self.now) (location_of other.now) }
     {
@@ -56,28 +56,28 @@ impl Location<'_> {
 /// How paths are held.
 #[derive(Clone, Copy)]
 pub(crate) enum HoldMode {
-    /// Others may hold them too, with their nonempty prefixes.
+    /// Others may hold them too. Their nonempty prefixes are shared as well.
     Shared,
-    /// Nobody else may hold them, and their proper prefixes are shared.
+    /// No other request may hold them. Their proper prefixes are shared.
     Exclusive,
 }
 
-/// What becomes of names.
+/// How names change.
 #[derive(Clone, Copy)]
 pub(crate) enum ChangeKind {
     Stays,
-    /// What stands at the first location is cut.
+    /// What is at the first location is cut.
     Cuts,
-    /// What stands at the first location is moved to the second.
+    /// What is at the first location is moved to the second.
     Moves,
-    /// What stands at either of the first two locations is moved to the other.
+    /// What is at either of the first two locations is moved to the other.
     Exchanges,
 }
 
-/// What a want asks for. The node of each location, or the one that its name is under, is given.
+/// What a want reserves. The node of each location, or the parent of its name, must be one that the client was given.
 #[derive(Clone, Copy)]
 pub(crate) struct UniformFootprint<'a> {
-    /// Whose paths the ticket tells.
+    /// The locations whose paths are in the ticket.
     pub(crate) locations: &'a [Location<'a>],
     pub(crate) hold: HoldMode,
     /// Whether an entry may be given for the name.
@@ -85,14 +85,14 @@ pub(crate) struct UniformFootprint<'a> {
     pub(crate) change: ChangeKind,
 }
 
-/// Whether a move may replace what stands at its target: it is not told to keep it, and moves from elsewhere.
+/// Whether a move may replace what is at its target: it need not keep it, and the source is a different name.
 fn may_replace(keep: bool, same: bool) -> bool
     ensures { result ≡ (not keep && not same) }
 {
     !keep && !same
 }
 
-/// What the want's footprint asks for: the table of footprints.
+/// What the want's footprint reserves: the table of footprints.
 pub(crate) fn reservation_for(
     alloc: Global,
     tree: &Tree,

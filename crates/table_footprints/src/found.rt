@@ -1,4 +1,4 @@
-//! What stands at a location.
+//! Looking up what is at a location.
 
 ghost use Rattle.std.specs.Prelude.{◌<◌, ◌≡◌, ◌++◌, ◌∷◌, [], Any, IfOk, IfErr, OnOk, length};
 ghost use Rattle.paths.specs.Prefixes.{Name as Spelt, Names};
@@ -14,17 +14,17 @@ use paths::{Name, Path};
 use std::alloc::{AllocError, Global};
 use tree::{Key, Tree};
 
-/// What stands at a location.
+/// What is at a location.
 #[derive(Drop)]
 pub(crate) struct AtLocation {
-    /// The path of the node, or of the one that the name is under.
+    /// The path of the node, or of the parent of the name.
     pub(crate) above: Path,
     pub(crate) path: Path,
-    /// The node that stands there.
+    /// The node at the location, if any.
     pub(crate) node: Option<u64>,
 }
 
-/// The path of the parent of the name with that path.
+/// The path above the last name of this one.
 pub(crate) fn above(path: &Path) -> Result<Path, AllocError>
     ensures { IfOk result (λ up. (above : Names) (name : Spelt) → path.now ≡ above ++ name ∷ [] → up ≡ above) }
 {
@@ -32,7 +32,7 @@ pub(crate) fn above(path: &Path) -> Result<Path, AllocError>
     Ok(up)
 }
 
-/// What stands at the location of a node.
+/// What is at the place of a node.
 fn find_node(alloc: Global, tree: &Tree, number: u64) -> Result<AtLocation, FootprintRefusal>
     requires { Leads (at_in tree.now) number }
     ensures ok { IfOk result (IsFound (at_in tree.now) (footprints.AtNode number)) }
@@ -47,7 +47,7 @@ fn find_node(alloc: Global, tree: &Tree, number: u64) -> Result<AtLocation, Foot
     })
 }
 
-/// What stands at a name under a node.
+/// What is at a name under a node.
 fn find_name(
     alloc: Global,
     tree: &Tree,
@@ -66,7 +66,7 @@ fn find_name(
     Ok(AtLocation { above, path, node })
 }
 
-/// What stands at the location.
+/// What is at the location.
 pub(crate) fn find(
     alloc: Global,
     tree: &Tree,
@@ -82,7 +82,7 @@ pub(crate) fn find(
     }
 }
 
-/// Tests that each node leads to the root.
+/// Checks that each node leads to the root.
 pub(crate) fn expect_rooted(tree: &Tree, locations: &[Location]) -> Result<(), FootprintRefusal>
     requires { 0 < length locations.now }
     ensures ok { OnOk result (AreRooted (at_in tree.now) (told locations.now)) }
@@ -98,7 +98,7 @@ pub(crate) fn expect_rooted(tree: &Tree, locations: &[Location]) -> Result<(), F
     Ok(())
 }
 
-/// Tests that the path may be moved to the other.
+/// Checks that the path may be moved to the target.
 fn expect_movable(path: &Path, target: &Path) -> Result<(), FootprintRefusal>
     ensures ok { OnOk result (CanMove path.now target.now) }
     ensures err { IfErr result (λ refusal. IsRefusedMove path.now target.now (refusal_errno refusal)) }
@@ -115,7 +115,7 @@ fn expect_movable(path: &Path, target: &Path) -> Result<(), FootprintRefusal>
     Ok(())
 }
 
-/// Tests that the two paths may change places.
+/// Checks that the two paths may be exchanged.
 fn expect_exchangeable(path: &Path, other: &Path) -> Result<(), FootprintRefusal>
     ensures ok { OnOk result (AreExchangeable path.now other.now) }
     ensures err { IfErr result (λ refusal. IsRefusedExchange path.now other.now (refusal_errno refusal)) }
@@ -132,7 +132,7 @@ fn expect_exchangeable(path: &Path, other: &Path) -> Result<(), FootprintRefusal
     Ok(())
 }
 
-/// Tests that what stands at the first of the paths may change so.
+/// Checks that the paths allow the change.
 pub(crate) fn expect_change(change: ChangeKind, paths: &[Path]) -> Result<(), FootprintRefusal>
     requires { AreEnough change (length paths.now) }
     ensures ok { OnOk result (MayChange change paths.now) }

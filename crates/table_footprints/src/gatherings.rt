@@ -1,4 +1,4 @@
-//! What a footprint asks for, gathered location by location.
+//! What a footprint reserves, collected location by location.
 
 ghost use Rattle.std.specs.Prelude.{ℕ, ◌+◌, ◌*◌, ◌^◌, ◌<◌, ◌≤◌, ◌≡◌, ◌↔◌, ◌⊎◌, ◌++◌, Contains, Some, IfOk, IfErr, OnOk, length};
 ghost use Rattle.paths.specs.Prefixes.{prefixes};
@@ -15,10 +15,10 @@ use std::alloc::{AllocError, Global};
 use table_requests::{Case, Givens, Pins, Promise};
 use tree::Tree;
 
-/// The postings that an entry may make: a birth, the entry itself, and that by which it is taken back.
+/// The postings that an entry may need: a birth, the entry itself, and the one that takes it back.
 const ENTRY_POSTINGS: u64 = 3;
 
-/// What a footprint asks for.
+/// What a footprint reserves.
 #[derive(Drop)]
 pub(crate) struct Reservation {
     pub(crate) case: Case,
@@ -29,7 +29,7 @@ pub(crate) struct Reservation {
     pub(crate) paths: Paths,
 }
 
-/// What was gathered so far.
+/// What was collected so far.
 #[derive(Drop)]
 pub(crate) struct Gathering {
     given: GivenPaths,
@@ -37,11 +37,11 @@ pub(crate) struct Gathering {
     pub(crate) exclusive: Paths,
     pub(crate) pins: Pins,
     pub(crate) paths: Paths,
-    /// Whether no node stands at one of the locations.
+    /// Whether one of the locations has no node.
     absent: bool,
 }
 
-/// Pins the node, and the one that was found.
+/// Pins the node, and the one that was found, if any.
 fn pin(pins: &mut Pins, number: u64, found: Option<u64>)
     requires { 2 ≤ pins.old.room }
     ensures room { pins.old.room ≤ pins.new.room + 2 }
@@ -58,7 +58,7 @@ fn pin(pins: &mut Pins, number: u64, found: Option<u64>)
     }
 }
 
-/// The case of a footprint that may give entries, by whether no node stands at one of its locations.
+/// The case of a footprint, which depends on whether a location has no node if entries may be given.
 fn entered_case(none: bool, enters: bool) -> Case
     ensures { result ≡ entered_case none enters }
 {
@@ -80,7 +80,7 @@ fn births_in(case: Case) -> u64
 }
 
 impl Gathering {
-    /// Nothing yet, with room for so many pins.
+    /// Nothing yet, with room for `pins` pins.
     pub(crate) fn new(alloc: Global, pins: usize) -> Result<Gathering, AllocError>
         ensures { IfOk result (IsNoGathering pins) }
     {
@@ -141,7 +141,7 @@ impl Gathering {
         Ok(())
     }
 
-    /// What is to be recorded, once all was added.
+    /// The reservation, after everything was added.
     pub(crate) fn into_reservation(
         self,
         alloc: Global,
@@ -182,7 +182,7 @@ impl Gathering {
     }
 }
 
-/// The same with one file that may be opened.
+/// The same, with one file that may be opened.
 fn with_file(reservation: Reservation) -> Reservation
     ensures { result ≡ record reservation { promise = record reservation.promise { files = 1 } } }
 {
@@ -207,7 +207,7 @@ fn with_file(reservation: Reservation) -> Reservation
     }
 }
 
-/// What is found at the footprint's locations, which lead to the root, with room for so many pins more.
+/// What is found at the footprint's locations, which lead to the root, with room for `more` further pins.
 pub(crate) fn gathering_of(
     alloc: Global,
     tree: &Tree,
@@ -231,7 +231,7 @@ pub(crate) fn gathering_of(
     Ok(gathering)
 }
 
-/// What the footprint asks for, if the tests of the nodes allow it.
+/// What the footprint reserves, if the tests of the nodes allow it.
 pub(crate) fn reservation_of(
     alloc: Global,
     tree: &Tree,
@@ -243,6 +243,7 @@ pub(crate) fn reservation_of(
     ensures census { IsCensus (at_in tree.now) tree.now.living tree.now.counts }
     ensures tree { IsTree (at_in tree.now) }
 {
+    // All parents are tested before any path, so a cut or unknown one is ESTALE whatever the other path is.
     expect_rooted(tree, footprint.locations)?;
     let gathering = gathering_of(alloc, tree, footprint, 0)?;
     expect_change(footprint.change, gathering.paths.as_slice())?;
@@ -256,7 +257,7 @@ pub(crate) fn reservation_of(
     Ok(reservation)
 }
 
-/// What the footprint asks for, and a file that may be opened.
+/// What the footprint reserves, and a file that may be opened.
 pub(crate) fn reservation_with_file(
     alloc: Global,
     tree: &Tree,

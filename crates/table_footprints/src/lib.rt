@@ -1,4 +1,4 @@
-//! What a want asks of a table, one footprint for each want.
+//! What a want reserves in a table: one footprint for each want.
 #![tactic(auto)]
 
 mod closing;
@@ -28,23 +28,24 @@ use table_files::Files;
 use table_requests::{Case, Names, Want, Work};
 use tree::Tree;
 
-/// A want asks for one footprint, as the nodes stand.
+/// For the prover: a want has one footprint, for each state of the nodes.
 pub fn footprints_are_fixed()
     ensures { AreFootprintsFixed }
 {}
 
-/// Each footprint has its locations at or under the nodes that it names, covers their paths, and holds exclusively the names that change.
+/// For the prover: the locations of each footprint are at or under the nodes that it names, their paths are covered,
+/// and the names that change are held exclusively.
 pub fn footprints_are_grounded()
     ensures { AreGrounded }
 {}
 
-/// What a request with that want is to be recorded with, if the tests of the nodes alone allow it: the nodes, the open files
-/// and the counter of the next hidden name say which case of its footprint the want is.
+/// What a request with that want is to be recorded with, if the tests of the nodes allow it. The nodes, the open files
+/// and the counter of the next hidden name determine the case of the want.
 ///
-/// The tests come in this order. [`errno::ESTALE`]: a node that the want names is not alive, or is cut; no memory was asked for
-/// until then. [`errno::ENAMETOOLONG`]: a path of the ticket is longer than 4,096 bytes. [`errno::EINVAL`]: a name would be moved
-/// below itself. [`errno::ENOTEMPTY`]: a name would be moved onto a folder that it stands in. [`errno::ENOMEM`] may stand in place
-/// of any but the first, where memory is refused.
+/// The tests are made in this order. [`errno::ESTALE`]: a node that the want names is not alive, or is cut; nothing is
+/// allocated before this test. [`errno::ENAMETOOLONG`]: a path of the ticket is longer than 4,096 bytes.
+/// [`errno::EINVAL`]: a name would be moved below itself. [`errno::ENOTEMPTY`]: a name would be moved onto a folder
+/// that contains it. [`errno::ENOMEM`] may come in place of any error but the first, if memory is refused.
 pub fn new_request(
     alloc: Global,
     tree: &Tree,
@@ -82,7 +83,7 @@ fn copied(want: &Want) -> Result<Option<Name>, AllocError>
     }
 }
 
-/// That name alone.
+/// That name only.
 fn one_name(alloc: Global, name: Name) -> Result<Names, AllocError>
     ensures { IfOk result (λ names. names ≡ name ∷ []) }
 {
@@ -91,7 +92,8 @@ fn one_name(alloc: Global, name: Name) -> Result<Names, AllocError>
     Ok(Names::from_vec(names))
 }
 
-/// A copy of the names of a page, of those that a file may be hidden under, or of the first name of an exchange.
+/// A copy of the names of a page, of the candidates under which a file may be hidden, or of the first name of an
+/// exchange.
 fn copies(alloc: Global, want: &Want, _case: Case, candidates: &Names) -> Result<Names, AllocError>
     requires { candidates.now ≡ hidden_in _case }
     ensures { IfOk result (λ copies. copies ≡ copied_page want.now _case) }
@@ -108,7 +110,7 @@ fn copies(alloc: Global, want: &Want, _case: Case, candidates: &Names) -> Result
     }
 }
 
-/// The record of a request with that want and those terms.
+/// The record of a request with that want and that reservation.
 fn recorded(alloc: Global, want: Want, reservation: Reservation) -> Result<NewRequest, AllocError>
     ensures { IfOk result (IsRecord want reservation) }
 {

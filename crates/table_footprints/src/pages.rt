@@ -1,4 +1,4 @@
-//! What a page asks for: a folder, and names of which nothing is held.
+//! What a page reserves: a folder, and names that are not held.
 
 ghost use Rattle.std.specs.Prelude.{ℕ, ◌+◌, ◌*◌, ◌^◌, ◌<◌, ◌≤◌, ◌≡◌, ◌↔◌, ◌⊎◌, [], ◌∷◌, Some, Contains, IfOk, IfErr, OnOk, length};
 ghost use Rattle.tree.specs.Places.{IsTree, Leads, at_in};
@@ -16,7 +16,7 @@ use std::alloc::{AllocError, Global};
 use table_requests::{Case, Pins};
 use tree::Tree;
 
-/// Pins the node that was found.
+/// Pins the node that was found, if any.
 pub(crate) fn pin_found(pins: &mut Pins, found: Option<u64>)
     requires { 1 ≤ pins.old.room }
     ensures room { pins.old.room ≤ pins.new.room + 1 }
@@ -28,7 +28,7 @@ pub(crate) fn pin_found(pins: &mut Pins, found: Option<u64>)
     }
 }
 
-/// Adds what was found at a name of which nothing is held.
+/// Adds what was found at a name, without holding the name.
 fn add_name(alloc: Global, gathering: &mut Gathering, found: AtLocation) -> Result<(), AllocError>
     requires { 1 ≤ gathering.old.pins.room }
     ensures { OnOk result (AddsName gathering.old found gathering.new) }
@@ -43,7 +43,8 @@ fn add_name(alloc: Global, gathering: &mut Gathering, found: AtLocation) -> Resu
     Ok(())
 }
 
-/// What is found at the folder, with room for so many names: what stands there and what is given are pinned.
+/// What is found at the folder, with room for the pins of that many names: the nodes there, and those that may be
+/// given.
 fn folder_draft(
     alloc: Global,
     tree: &Tree,
@@ -84,7 +85,7 @@ fn page_draft(
     Ok(gathering)
 }
 
-/// What a page of these names asks for, if the tests of the nodes allow it.
+/// What a page of these names reserves, if the tests of the nodes allow it.
 pub(crate) fn page_reservation(
     alloc: Global,
     tree: &Tree,
@@ -96,6 +97,7 @@ pub(crate) fn page_reservation(
 {
     expect_rooted(tree, &[Location::AtNode(folder)])?;
     let gathering = page_draft(alloc, tree, folder, names)?;
+    // A node and three postings are promised for each name, even if it already has a node.
     let reservation = gathering.into_reservation(
         alloc,
         Case::Plain,

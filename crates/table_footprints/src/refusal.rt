@@ -14,16 +14,16 @@ pub(crate) enum FootprintRefusal {
     Stale,
     /// A path is longer than 4,096 bytes.
     TooLong,
-    /// A name would be moved below itself, or change places with one below it.
+    /// A name would be moved below itself, or exchanged with one below it.
     IntoItself,
-    /// A name would be moved onto a folder that it stands in.
+    /// A name would be moved onto a folder that contains it.
     OntoFolder,
     /// Memory was refused.
     Memory,
 }
 
 impl FootprintRefusal {
-    /// Its error number.
+    /// The error number of the refusal.
     pub(crate) fn errno(self) -> i32
         ensures { result ≡ refusal_errno self }
     {

@@ -1,4 +1,5 @@
-//! What a name that goes asks for, since it is removed or replaced: it, and the names that its file may be hidden under, beside it.
+//! What removing or replacing a name reserves: the name, and the candidates in the same folder under which its file may
+//! be hidden.
 
 ghost use Rattle.std.specs.Prelude.{ℕ, ◌+◌, ◌++◌, ◌^◌, ◌≡◌, ◌<◌, ◌≤◌, ◌↔◌, ◌⊎◌, Some, Contains, IfOk, IfErr, OnOk, length, map};
 ghost use Rattle.table_files.specs.OpenEntry.{files_of};
@@ -22,19 +23,19 @@ use table_files::Files;
 use table_requests::{Case, Names};
 use tree::{Key, Tree};
 
-/// A name that goes, since it is removed or replaced.
+/// A name that is removed or replaced.
 #[derive(Clone, Copy)]
 pub(crate) struct Gone<'a> {
     pub(crate) parent: u64,
     pub(crate) name: &'a Name,
-    /// Whether the file of the node that stands there is hidden while it is open.
+    /// Whether the file of the node with this name is hidden if it is open.
     pub(crate) may_hide: bool,
 }
 
-/// How many names a file may be hidden under.
+/// How many candidates a file may be hidden under.
 const CANDIDATES: u32 = 10;
 
-/// The node that stands at the name.
+/// The node with this name.
 fn standing(tree: &Tree, gone: &Gone) -> Result<Option<u64>, AllocError>
     ensures { IfOk result (λ node. (n : ℕ) → (node ≡ Some n) ↔ IsNamed (at_in tree.now) n gone.now.parent gone.now.name.now) }
 {
@@ -45,7 +46,7 @@ fn standing(tree: &Tree, gone: &Gone) -> Result<Option<u64>, AllocError>
     Ok(tree.find(&key))
 }
 
-/// The case of a name that goes, by the node that was found there.
+/// The case of a name that is removed or replaced, by the node that was found there.
 fn hiding_case(files: &Files, counter: u32, may_hide: bool, found: Option<u64>) -> Case
     ensures { (at : Lookup) (parent : ℕ) (name : Spelt) → IsTree at → ((n : ℕ) → (found ≡ Some n) ↔ IsNamed at n parent name) → IsHidingCase (record { at = at; files = (files_of files.now).at; counter = counter }) parent name may_hide result }
 {
@@ -60,7 +61,7 @@ fn hiding_case(files: &Files, counter: u32, may_hide: bool, found: Option<u64>) 
 }
 
 #[tactic(auto, unfolding(crate::specs::Footprints::hidden_names))]
-/// The names from that counter on that a file of the node may be hidden under.
+/// The ten candidates, from that counter on, under which a file of the node may be hidden.
 fn candidates_of(alloc: Global, number: u64, counter: u32) -> Result<Names, AllocError>
     ensures { IfOk result (λ names. names ≡ hidden_names number counter 10) }
 {
@@ -71,7 +72,7 @@ fn candidates_of(alloc: Global, number: u64, counter: u32) -> Result<Names, Allo
     Ok(Names::from_vec(names))
 }
 
-/// The names that a file may be hidden under in that case.
+/// The candidates under which a file may be hidden in that case.
 pub(crate) fn candidates(alloc: Global, case: Case) -> Result<Names, AllocError>
     ensures { IfOk result (λ names. names ≡ hidden_in case) }
 {
@@ -81,7 +82,8 @@ pub(crate) fn candidates(alloc: Global, case: Case) -> Result<Names, AllocError>
     }
 }
 
-/// Adds what was found at a name beside the one that goes.
+/// Adds what was found at a candidate. It is pinned and held exclusively, so that no other request makes or removes it
+/// before this one ends.
 fn add_beside(alloc: Global, gathering: &mut Gathering, found: AtLocation) -> Result<(), AllocError>
     requires { 1 ≤ gathering.old.pins.room }
     ensures { OnOk result (AddsBeside gathering.old found gathering.new) }
@@ -97,7 +99,7 @@ fn add_beside(alloc: Global, gathering: &mut Gathering, found: AtLocation) -> Re
     Ok(())
 }
 
-/// What is found at the footprint's locations, and at the names beside the one that goes.
+/// What is found at the footprint's locations, and at the other names in the same folder.
 fn gathered(
     alloc: Global,
     tree: &Tree,
@@ -121,7 +123,7 @@ fn gathered(
     Ok(gathering)
 }
 
-/// What the footprint of a name that goes asks for, if the tests of the nodes allow it.
+/// What the footprint of a name that is removed or replaced reserves, if the tests of the nodes allow it.
 pub(crate) fn going_reservation(
     alloc: Global,
     tree: &Tree,

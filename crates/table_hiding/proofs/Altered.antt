@@ -1,4 +1,4 @@
--- A change of names keeps marked nodes at reserved names, where it moves a name that is not reserved or moves it to one that is.
+-- A change of names keeps marked nodes at reserved names, if it does not move a reserved name to one that is not.
 use Rattle.std.proofs.Common.{ℕ, ◌≡◌, ◌⊎◌, Bool, true, false, Some, None, refl, sym, ap, ◌∙◌, subst, inl, inr}
 use Rattle.std.proofs.lemmas.Bool.{cases_eq}
 use Rattle.paths.specs.Hidden.{is_reserved}
@@ -14,7 +14,7 @@ use Rattle.table_steps.specs.Steps.{Alters, Follows, Hides, Marks, Moves, Replac
 use Rattle.table_hiding.proofs.Marked.{AreMarkedReserved, HasReservedPath, reserved_changed, stands_places, stands_reserved, written_places}
 use Rattle.table_hiding.proofs.Reserved.{IsReservedPath, cut_reserved, exchange_reserved, follow_cut, follow_reserved, move_reserved, source_reserved, unreserved_end}
 
--- the location is that of a reserved name, or of another
+-- the location is at a reserved name, or at another name
 abbrev pub IsReservedName : Location → Type 0
 IsReservedName (AtName parent name) = is_reserved name ≡ true
 IsReservedName (AtNode number) = ⊥
@@ -23,7 +23,7 @@ abbrev pub IsOtherName : Location → Type 0
 IsOtherName (AtName parent name) = is_reserved name ≡ false
 IsOtherName (AtNode number) = ⊥
 
--- it takes no marked node to a name that is not reserved
+-- the change moves no marked node to a name that is not reserved
 abbrev pub SparesMarked : Change → Type 0
 SparesMarked stays = Unit {0}
 SparesMarked (cuts l) = Unit {0}
@@ -48,7 +48,7 @@ path_there at (AtName parent name) path leads n named = subst (λ p. IsPathOf at
 
 -- ---- what is hidden
 
--- a node that stands at a reserved name, or is cut, is marked
+-- marking a node at a reserved name, or a cut one, maintains this
 mark_reserved : (at : Lookup) (n : ℕ) (x : Node) → at n ≡ Some x → IsCut at n ⊎ HasReservedPath at n → AreMarkedReserved at → AreMarkedReserved (with_node at n (record x { hidden = true }))
 mark_reserved at n x here stands safe m z here' mark =
     let y : Node = record x { hidden = true } in

@@ -1,4 +1,4 @@
--- The steps of a table keep marked nodes at reserved names, with the ends of periods before them.
+-- The steps of a table keep marked nodes at reserved names, as do the ends of periods before them.
 use Rattle.std.proofs.Common.{ℕ, ◌≡◌, ◌⊎◌, Bool, true, List, [], ◌∷◌, ◌++◌, Some, None, reverse, refl, sym, ap, ◌∙◌, subst, inl, inr}
 use Rattle.std.proofs.lemmas.Bool.{cases_eq, true≢false}
 use Rattle.std.proofs.lemmas.List.{reverse-reverse}
@@ -25,7 +25,7 @@ use Rattle.table_hiding.specs.Hiding.{ArePathsOfMarked, IsBegunUnreserved, IsUnr
 use Rattle.table_hiding.proofs.Marked.{HasReservedPath}
 use Rattle.table_hiding.proofs.Stepping.{IsSafe, begins_safe, finishes_safe, forgets_safe, safe_as, settles_safe}
 
--- ---- of a lawful world
+-- ---- in a lawful world
 
 path_of_name : (at : Lookup) (n : ℕ) (key : Key) (way : Names) → IsRooted at → IsNamed at n key.parent key.name → is_reserved key.name ≡ true → Reaches at 1 n way → HasReservedPath at n
 path_of_name at n key [] rooted named reserved h = absurd (root_unnamed at rooted key.parent key.name (subst (λ k. IsNamed at k key.parent key.name) h named))
@@ -86,7 +86,7 @@ module _ (old new : World) (lawful : IsLawfulWorld old) (lawful' : IsLawfulWorld
   forgets_keep number n amount it =
       from_safe new lawful' (forgets_safe it.renewed new number n amount it.forgets (renewed_safe old it.renewed (renewed_is old it.renewed it.room) (safe_from old lawful keeps)))
 
--- ---- a table that was opened, and what is left at the end
+-- ---- a table that was opened, and what is left at its end
 
 pub begun_unreserved : (want : Want) (told : Begin) → IsUnreserved want → IsBegunUnreserved want told
 begun_unreserved want (Go ticket) plain = plain
@@ -104,7 +104,7 @@ opened_keeps limits = record {
   unreserved = λ id f work it. absurd (none-some f it.here);
 }
 
--- what is left of hidden files is all that has a mark
+-- the leftover files are all that have a mark
 pub left_marked : (w : World) (paths : List Names) → KeepsHidden w → AreLeftovers w.at paths → ArePathsOfMarked w.at paths
 left_marked w paths keeps left = record {
   numbers = left.numbers;

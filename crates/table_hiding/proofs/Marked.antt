@@ -1,4 +1,4 @@
--- Nodes that have a hidden mark stand at reserved names or are cut, whatever becomes of entries, counts and places.
+-- Nodes with a hidden mark are at reserved names or are cut, whatever happens to entries, counts and places.
 use Rattle.std.proofs.Common.{ℕ, ◌-◌, ◌+◌, ◌≡◌, ◌⊎◌, Bool, true, false, List, [], ◌∷◌, ◌++◌, Option, Some, None, reverse, refl, sym, ap, ◌∙◌, subst, inl, inr}
 use Rattle.std.proofs.lemmas.Bool.{cases_eq, true≢false}
 use Rattle.std.proofs.lemmas.Option.{none-some, same_Some}
@@ -18,19 +18,19 @@ use Rattle.table_steps.specs.World.{RequestsInFlight}
 use Rattle.table_steps.proofs.Guarding.{reaches_swept}
 use Rattle.table_hiding.proofs.Reserved.{IsReservedPath, IsReservedPlace, KeepsReserved}
 
--- a path leads to the node that ends in a reserved name
+-- the node has a path that ends in a reserved name
 pub record HasReservedPath (at : Lookup) (n : ℕ) : Type 0 where
   pub path : Names
   pub leads : IsPathOf at n path
   pub ends : IsReservedPath path
 
--- it may be cut within a call
+-- within a call it may be cut
 abbrev pub AreMarkedReserved : Lookup → Type 0
 AreMarkedReserved at = (n : ℕ) (x : Node) → at n ≡ Some x → x.hidden ≡ true → IsCut at n ⊎ HasReservedPath at n
 
 -- ---- nodes that keep their places
 
--- each node keeps its place, and each that is marked was marked before
+-- each node keeps its place, and each marked node was marked before
 pub record KeepsMarked (old new : Lookup) : Type 0 where
   pub place : (n : ℕ) (x : Node) → old n ≡ Some x → (y : Node) × (new n ≡ Some y) × (y.place ≡ x.place)
   pub marked : (n : ℕ) (y : Node) → new n ≡ Some y → y.hidden ≡ true → (x : Node) × (old n ≡ Some x) × (x.hidden ≡ true)
@@ -47,7 +47,7 @@ then_marked old mid new one two = record {
   marked = λ n y here mark. let b = two.marked n y here mark in one.marked n b.0 b.1 b.2;
 }
 
--- one node is written anew at its place
+-- one node is rewritten at its place
 pub written_places : (at : Lookup) (n : ℕ) (x y : Node) → at n ≡ Some x → y.place ≡ x.place → (m : ℕ) (z : Node) → at m ≡ Some z → (w : Node) × (with_node at n y m ≡ Some w) × (w.place ≡ z.place)
 written_places at n x y stood place m z here = elim (cases_eq n m) [
   | inl e ↦
@@ -98,7 +98,7 @@ pub backs_marked : (at : Lookup) (ps : Periods) (ns : List ℕ) (at' : Lookup) (
 backs_marked at ps [] at' qs same = same_marked at at' same.0
 backs_marked at ps (n ∷ ns) at' qs (mid, rs, one, more) = then_marked at mid at' (back_marked at ps n mid rs one) (backs_marked mid rs ns at' qs more)
 
--- ---- what follows for marked nodes
+-- ---- the result for marked nodes
 
 reaches_places : (old new : Lookup) → ((n : ℕ) (x : Node) → old n ≡ Some x → (y : Node) × (new n ≡ Some y) × (y.place ≡ x.place)) → (n : ℕ) (way : Names) → Reaches old 1 n way → Reaches new 1 n way
 reaches_places old new place n [] h = h
@@ -115,7 +115,7 @@ reserved_kept old new keeps safe n y here mark =
     let was = keeps.marked n y here mark in
     stands_places old new keeps.place n (safe n was.0 was.1 was.2)
 
--- a sweep leaves the nodes above the ones that stay
+-- a sweep keeps the nodes above those that remain
 pub reserved_swept : (kept : ℕ → Bool) (old new : Lookup) → IsSwept kept old new → AreMarkedReserved old → AreMarkedReserved new
 reserved_swept kept old new swept safe n y here mark = elim (safe n y (swept.kept n y here) mark) [
   | inl lost ↦ inl (y, here, ap (λ (w : Node). w.place) (same_Some y lost.0 (sym (swept.kept n y here) ∙ lost.1)) ∙ lost.2)

@@ -1,4 +1,4 @@
--- Paths that end in a reserved name, and where changes of names take what stands there.
+-- Paths that end in a reserved name, and where changes of names move what is there.
 use Rattle.std.proofs.Common.{◌&&◌, ◌≡◌, ◌⊎◌, Bool, true, false, not, List, [], ◌∷◌, ◌++◌, append-nil, append_assoc, if◌then◌else◌, drop, length, refl, sym, ap, ◌∙◌, subst, inl, inr}
 use Rattle.std.proofs.lemmas.Bool.{and_parts, true≢false}
 use Rattle.std.proofs.lemmas.List.{same_from_push}
@@ -15,16 +15,16 @@ pub record IsReservedPath (path : Names) : Type 0 where
   pub whole : path ≡ above ++ name ∷ []
   pub reserved : is_reserved name ≡ true
 
--- so it does, if there is a path
+-- the same, if there is a path
 abbrev pub IsReservedPlace : Where → Type 0
 IsReservedPlace (at_path path) = IsReservedPath path
 IsReservedPlace cut = Unit {0}
 
--- what stands under such a name is taken to one, or is cut
+-- what is at such a name is moved to one, or is cut
 abbrev pub KeepsReserved : (Where → Where) → Type 0
 KeepsReserved f = (path : Names) → IsReservedPath path → IsReservedPlace (f (at_path path))
 
--- ---- the end of a path
+-- ---- the last name of a path
 
 pub unreserved_end : (path above : Names) (name : Name) → path ≡ above ++ name ∷ [] → is_reserved name ≡ false → IsReservedPath path → ⊥
 unreserved_end path above name whole plain it =
@@ -38,7 +38,7 @@ split (name ∷ names) = elim (split names) [
   | inr it ↦ inr (name ∷ it.0, it.1, ap (λ (k : Names). name ∷ k) it.2)
 ]
 
--- a path that leads on from p, put behind q
+-- a path that extends p, with q in place of p
 moved_end : (p q more r : Names) → r ≡ p ++ more → (IsReservedPath p → IsReservedPath q) → IsReservedPath r → IsReservedPath (q ++ more)
 moved_end p q more r e ends it = elim (split more) [
   | inl none ↦
@@ -71,7 +71,7 @@ either false v w one other = other refl
 pub cut_reserved : (p : Names) → KeepsReserved (after_cut p)
 cut_reserved p r it = either (is_prefix p r) cut (at_path r) (λ e. tt) (λ e. it)
 
--- where the new path is reserved or the old one is not
+-- the new path is reserved, or the old one is not
 pub move_reserved : (p q : Names) → (IsReservedPath p → IsReservedPath q) → KeepsReserved (after_move p q)
 move_reserved p q ends r it =
     let on : Where = at_path (q ++ drop (length p) r) in
@@ -98,7 +98,7 @@ follow_cut c p q = same (is_prefix c p && not (is_prefix p c))
     same true = refl
     same false = refl
 
--- what stood at the source of a move stands at its target, or nowhere
+-- what was at the source of a move is at its target, or nowhere
 pub source_reserved : (p q : Names) → IsReservedPath q → IsReservedPlace (after_move p q (at_path p))
 source_reserved p q it =
     let rest : q ++ drop (length p) p ≡ q = ap (λ (k : Names). q ++ k) (ap (λ (k : Names). drop (length p) k) (sym (append-nil p)) ∙ drop-append p []) ∙ append-nil q in

@@ -1,4 +1,4 @@
--- What each step of a table makes of marked nodes, and of what the requests in flight may do to them.
+-- What each step of a table does to marked nodes, and to what the requests in flight may do to them.
 use Rattle.std.proofs.Common.{ℕ, ◌-◌, ◌==◌, ◌<◌, ◌≡◌, ◌⊎◌, Bool, true, false, if◌then◌else◌, List, [], Option, Some, None, drop, refl, sym, ap, ◌∙◌, subst, inl, inr, arith}
 use Rattle.std.proofs.lemmas.Bool.{cases_Bool, cases_eq}
 use Rattle.std.proofs.lemmas.Option.{none-some, same_Some}
@@ -20,7 +20,7 @@ use Rattle.table_hiding.proofs.Altered.{SparesMarked, reserved_altered}
 use Rattle.table_hiding.proofs.Marked.{AreMarkedReserved, backs_marked, entries_marked, reserved_kept, reserved_swept, written_marked}
 use Rattle.table_hiding.proofs.Wants.{outcome_spares}
 
--- the work has the footprint of its want, which names nothing that is reserved
+-- the work has the footprint of its want, which names nothing reserved
 pub record IsSparing (work : Work) : Type 0 where
   pub case : Case
   pub footprint : work.footprint ≡ footprint_of work.want case

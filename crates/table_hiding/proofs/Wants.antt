@@ -1,4 +1,4 @@
--- A want in which no name is reserved comes to a change that spares what is marked.
+-- A want without reserved names leads to a change that does not affect marked nodes.
 use Rattle.std.proofs.Common.{ℕ, zero, suc, ◌≡◌, Bool, true, false, List, [], ◌∷◌, ◌++◌, Option, Some, None, All, Contains, map, refl, sym, ap, ◌∙◌, subst}
 use Rattle.std.specs.List.{slice_get}
 use Rattle.std.proofs.lemmas.List.Elements.{All-contains, All-head, All-map, All-nil, All-push, All-tail}
@@ -104,7 +104,7 @@ replacing_spares (hides l c) o moved is spares = tt
 replacing_spares (replaces s t c again) o moved is spares = tt
 replacing_spares (exchanges s t) o moved is spares = tt
 
--- whatever comes of a request that was begun with such a want
+-- whatever the outcome of a request that was begun with such a want
 pub outcome_spares : (want : Want) (c : Case) (outcome : Outcome) → IsUnreserved want → SparesMarked (act_of (footprint_of want c) outcome).change
 outcome_spares want c Failed plain = tt
 outcome_spares want c Done plain = done_spares want c plain

@@ -1,2 +1,2 @@
-//! Where hidden files stand: definitions and lemmas for the crates above. It has no code.
+//! Where hidden files are: definitions and lemmas for the crates above. It has no code.
 #![tactic(auto)]

@@ -1,6 +1,6 @@
--- That the lookup counts add up to what is left in the ledger exactly if nothing is left of the dead.
+-- The lookup counts add up to what is left in the ledger exactly if nothing is left of dead nodes.
 --
--- One number and generation after the other is taken out of the postings.
+-- The proof takes one number and generation after another out of the postings.
 use Rattle.std.proofs.Common.{ℕ, ◌+◌, ◌<◌, ◌≤◌, ◌≡◌, ◌≢◌, ◌⊎◌, ◌↔◌, inl, inr, List, [], ◌∷◌, Some, length, get_or, take, length-take, sym, ap, ◌∙◌, subst, arith}
 use Rattle.std.proofs.lemmas.Bool.{cases_eq, cases_lt}
 use Rattle.std.proofs.lemmas.Option.{none-some}
@@ -20,14 +20,14 @@ use Rattle.table_image.specs.Parts.{AreCountsExact, AreOthersSettled, entered_in
 
 -- ---- without the postings of living nodes
 
--- the rest has the postings of no node, and those of all others
+-- the rest has the postings of the numbers and generations that no node has, and no others
 record IsOfOthers (xs : List Node) (ps rest : List Posting) : Type 0 where
   covered : IsCovered rest
   whole : counts_in_all xs + given_in_all ps + entered_in_all rest ≡ entered_in_all ps + given_in_all rest
   forth : AreOthersSettled (node_at xs) (unclosed ps) → IsBalanced rest
   back : IsBalanced rest → AreOthersSettled (node_at xs) (unclosed ps)
 
--- another number and generation, and one that is borne by no node after the first either
+-- another number and generation that no node has, also not the nodes after the first
 unborne_tail : (x : Node) (xs : List Node) (n g : ℕ) → IsDistinct (x ∷ xs) → IsUnborne (node_at (x ∷ xs)) n g → IsUnborne (node_at xs) n g
 unborne_tail x xs n g distinct unborne y here =
     let ne : x.number ≡ n → ⊥ = λ e. none-some y (sym distinct.0 ∙ (ap (node_at xs) e ∙ here)) in
@@ -93,7 +93,8 @@ of_others (x ∷ xs) ps distinct covered exact =
       },
     )
 
--- the lookup counts add up to what is left in the ledger exactly if nothing is left of a number and generation that no node bears
+-- the lookup counts add up to what is left in the ledger exactly if nothing is left of a number and generation that no
+-- node has
 pub settled_by_sums : (xs : List Node) (ps : Periods) → IsDistinct xs → IsNeverNegative ps → AreCountsExact (node_at xs) ps
     → (counts_in_all xs + given_in_all ps.last ≡ entered_in_all ps.last) ↔ AreOthersSettled (node_at xs) ps
 settled_by_sums xs ps distinct never exact =
@@ -102,9 +103,9 @@ settled_by_sums xs ps distinct never exact =
       λ settled. let even = balanced_all it.0 (it.1.forth (record { others = settled.others })) in omega (arith, it.1.whole, even),
     )
 
--- ---- one posting after the other
+-- ---- one posting after another
 
--- the beginnings of a ledger that was never negative
+-- the prefixes of a ledger that was never negative
 never_negative-take : (ps : Periods) (k : ℕ) → IsNeverNegative ps → IsNeverNegative (up_to k ps)
 never_negative-take ps k never = record {
   within = λ j n g. elim (cases_lt k j) [
@@ -115,7 +116,7 @@ never_negative-take ps k never = record {
   ];
 }
 
--- the sums of one posting more
+-- the sums with one more posting
 pub record AddsOne (ps : List Posting) (i : ℕ) (p : Posting) : Type 0 where
   pub entries : entered_in_all (take (i + 1) ps) ≡ entered_in_all (take i ps) + entered p
   pub gifts : given_in_all (take (i + 1) ps) ≡ given_in_all (take i ps) + gift p

@@ -1,4 +1,4 @@
--- What the numbers of a held path count.
+-- The counts of the holders of a path.
 use Rattle.std.proofs.Common.{ℕ, zero, suc, ◌<◌, ◌≡◌, ◌≢◌, ◌&&◌, ◌⊎◌, Bool, true, false, cond, List, [], ◌∷◌, Contains, length, get_or, refl, sym, ap, ◌∙◌, subst, arith, inl, inr}
 use Rattle.std.specs.Prelude.{All, AllPairs, count_by}
 use Rattle.std.specs.List.{list_any}
@@ -73,7 +73,7 @@ pub stored_not_absent : (hs : List Hold) (path : Names) → IsStored hs path →
 unfolding IsStored
 stored_not_absent hs path some none = none some.0 some.1 some.2 (ap (λ (h : Hold). h.path) some.3 ∙ some.4)
 
--- ---- what a record holds
+-- ---- what a request holds
 
 working : (stage : ImageStage) → is_working stage ≡ true → stage ≡ Working
 working Working is = refl

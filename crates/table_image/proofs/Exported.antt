@@ -1,4 +1,4 @@
--- That what is exported of a lawful table is a lawful image.
+-- The export of a lawful table is a lawful image.
 use Rattle.std.proofs.Common.{ℕ, zero, suc, ◌+◌, ◌<◌, ◌≤◌, ◌≡◌, ◌≢◌, ◌==◌, ◌||◌, Bool, true, false, List, [], ◌∷◌, ◌++◌, Some, None, length, get_or, refl, sym, ap, ◌∙◌, subst, inl, inr, arith}
 use Rattle.std.specs.Prelude.{All, AllPairs}
 use Rattle.std.specs.List.{AllZip}
@@ -22,16 +22,16 @@ use Rattle.table_law.specs.Law.{IsKnownFile, IsLawful}
 use Rattle.table_image.specs.ImageLaw.{AreApart, AreHoldsCounted, AreKnown, IsCountOf, IsLawfulImage, is_kept, is_pinned, periods_in}
 use Rattle.table_image.specs.Parts.{IsStored}
 
--- ---- the law, from what is said of each number
+-- ---- the law, from what is known about each number
 
--- the law is about where each number leads and which numbers are kept, and nothing else of them
+-- the law depends only on the node of each number and on which numbers are kept
 pub IsLawful-same : (old new : Lookup) (ps : Periods) (p q : ℕ → Bool) → ((n : ℕ) → new n ≡ old n) → ((n : ℕ) → q n ≡ p n) → IsLawful old ps p → IsLawful new ps q
 IsLawful-same old new ps p q nodes keeps law =
     let at : old ≡ new = fun_ext (λ n. sym (nodes n)) in
     let kept : p ≡ q = fun_ext (λ n. sym (keeps n)) in
     subst (λ (r : ℕ → Bool). IsLawful new ps r) kept (subst (λ (l : Lookup). IsLawful l ps p) at law)
 
--- an image shows nodes, a ledger, what is kept, open files and holds that keep the law
+-- an image has nodes, a ledger, requests, open files and holds that satisfy the law
 pub record Shows (image : Image) (at : Lookup) (ps : Periods) (kept : ℕ → Bool) : Type 0 where
   pub distinct : IsDistinct image.nodes
   pub nodes : (n : ℕ) → node_at image.nodes n ≡ at n
@@ -44,7 +44,7 @@ pub record Shows (image : Image) (at : Lookup) (ps : Periods) (kept : ℕ → Bo
   pub apart : AreApart image.records
   pub known : AreKnown at image.records
 
--- so it is lawful
+-- then it is lawful
 pub IsLawfulImage-shows : (image : Image) (at : Lookup) (ps : Periods) (kept : ℕ → Bool) → Shows image at ps kept → IsLawful at ps kept → IsLawfulImage image
 IsLawfulImage-shows image at ps kept shows law =
     let same : at ≡ node_at image.nodes = fun_ext (λ n. sym (shows.nodes n)) in
@@ -61,7 +61,7 @@ IsLawfulImage-shows image at ps kept shows law =
       known = subst (λ (l : Lookup). AreKnown l image.records) same shows.known;
     }
 
--- ---- nodes listed by rising numbers
+-- ---- nodes listed by rising number
 
 -- the list has the nodes of the numbers below the bound
 pub record ListsBelow (at : Lookup) (bound : ℕ) (xs : List Node) : Type 0 where
@@ -72,7 +72,7 @@ pub record ListsBelow (at : Lookup) (bound : ℕ) (xs : List Node) : Type 0 wher
 pub ListsBelow-none : (at : Lookup) → ListsBelow at 0 []
 ListsBelow-none at = record { distinct = tt; below = λ n less. absurd (omega arith); above = λ n le. refl }
 
--- a number that no node bears is passed over
+-- a number without a node is skipped
 pub ListsBelow-skip : (at : Lookup) (bound : ℕ) (xs : List Node) → at bound ≡ None → ListsBelow at bound xs → ListsBelow at (bound + 1) xs
 ListsBelow-skip at bound xs none lists = record {
   distinct = lists.distinct;
@@ -98,7 +98,7 @@ ListsBelow-push at bound xs x here number lists =
       above = λ n le. read n ∙ (with_other (node_at xs) x.number x n (λ e. omega arith) ∙ lists.above n (omega arith));
     }
 
--- where each living number is below the bound, the list has all nodes
+-- if each living number is below the bound, the list has all nodes
 pub ListsBelow-all : (at : Lookup) (bound : ℕ) (xs : List Node) → ((n : ℕ) → IsAlive at n → n < bound) → ListsBelow at bound xs → (n : ℕ) → node_at xs n ≡ at n
 ListsBelow-all at bound xs all lists n = elim (cases_lt n bound) [
   | inl less ↦ lists.below n less
@@ -108,13 +108,13 @@ ListsBelow-all at bound xs all lists n = elim (cases_lt n bound) [
   ]
 ]
 
--- ---- records
+-- ---- requests
 
 or_false : (b : Bool) → (b || false) ≡ b
 or_false true = refl
 or_false false = refl
 
--- one record more
+-- one more request
 pub is_pinned-push : (rs : List Record) (r : Record) (n : ℕ) → is_pinned (rs ++ r ∷ []) n ≡ (is_pinned rs n || list_any (λ m. m == n) r.pins)
 is_pinned-push rs r n =
     list_any-append (λ (q : Record). list_any (λ m. m == n) q.pins) rs (r ∷ []) ∙ ap (λ (b : Bool). is_pinned rs n || b) (or_false (list_any (λ m. m == n) r.pins))
@@ -122,11 +122,11 @@ is_pinned-push rs r n =
 pub ids-push : (rs : List Record) (r : Record) → AllPairs (λ (s t : Record). s.id ≢ t.id) rs → ((k : ℕ) (d : Record) → k < length rs → (get_or rs k d).id ≢ r.id) → AllPairs (λ (s t : Record). s.id ≢ t.id) (rs ++ r ∷ [])
 ids-push rs r ids fresh = all_pairs_push (λ (s t : Record). s.id ≢ t.id) rs r ids fresh
 
--- records that are written one for each element of a list, with its id and its pins
+-- requests of the image that are written for those of a list, with the same ids and pins
 abbrev pub Mirrors : {A : Type 0} → (A → ℕ) → (A → List ℕ) → List A → List Record → Type 0
 Mirrors id pins fs rs = AllZip (λ f (r : Record). (r.id ≡ id f) × (r.pins ≡ pins f)) fs rs
 
--- they pin what those pin
+-- they pin the same numbers
 pub is_pinned-mirrors : {A : Type 0} (id : A → ℕ) (pins : A → List ℕ) (fs : List A) (rs : List Record) → Mirrors id pins fs rs
     → (n : ℕ) → is_pinned rs n ≡ list_any (λ f. list_any (λ m. m == n) (pins f)) fs
 is_pinned-mirrors id pins [] [] mirrors n = refl
@@ -151,7 +151,7 @@ mirrors_id id pins (f ∷ fs) [] i e d mirrors within = absurd mirrors
 mirrors_id id pins (f ∷ fs) (r ∷ rs) zero e d mirrors within = mirrors.0.0
 mirrors_id id pins (f ∷ fs) (r ∷ rs) (suc i) e d mirrors within = mirrors_id id pins fs rs i e d mirrors.1 (omega arith)
 
--- and their ids are distinct if those are
+-- their ids are distinct if those of the list are
 pub ids-mirrors : {A : Type 0} (id : A → ℕ) (pins : A → List ℕ) (fs : List A) (rs : List Record) → Mirrors id pins fs rs
     → AllPairs (λ f g. id f ≢ id g) fs → AllPairs (λ (r s : Record). r.id ≢ s.id) rs
 ids-mirrors id pins [] rs mirrors apart i j d before within same = let none = mirrors_length id pins [] rs mirrors in absurd (omega arith)
@@ -180,7 +180,7 @@ pub record Stores (old new : List Hold) (paths : List Names) : Type 0 where
 pub ListsHeld-none : (sharers owners : Names → ℕ) → ListsHeld sharers owners []
 ListsHeld-none sharers owners = record { once = λ i j d before within. absurd (omega arith); each = λ k d within. absurd (omega arith) }
 
--- a path more
+-- one more path
 pub ListsHeld-push : (sharers owners : Names → ℕ) (hs : List Hold) (h : Hold) → All (λ (k : Hold). k.path ≢ h.path) hs → IsCountOf sharers owners h → ListsHeld sharers owners hs → ListsHeld sharers owners (hs ++ h ∷ [])
 ListsHeld-push sharers owners hs h fresh counts lists = record {
   once = all_pairs_push (λ (a b : Hold). a.path ≢ b.path) hs h lists.once fresh;
@@ -210,14 +210,14 @@ Stores-none hs = record { kept = λ p is. is; stored = λ k d within. absurd (om
 all_kept : (old new : List Hold) (ps : List Names) → ((path : Names) → IsStored old path → IsStored new path) → All (IsStored old) ps → All (IsStored new) ps
 all_kept old new ps kept all k d within = kept (get_or ps k d) (all k d within)
 
--- a path more was stored
+-- one more path was stored
 pub Stores-more : (old now new : List Hold) (ps : List Names) (p : Names) → Stores old now ps → Stores now new (p ∷ []) → Stores old new (ps ++ p ∷ [])
 Stores-more old now new ps p first second = record {
   kept = λ path is. second.kept path (first.kept path is);
   stored = All-push (IsStored new) ps p (all_kept now new ps second.kept first.stored) (second.stored 0 p (omega arith));
 }
 
--- what was stored first is still stored after the second step, and the other way round
+-- what the first step stored is still stored after the second, and the other way round
 pub Stores-then : (old now new : List Hold) (ps qs : List Names) → Stores old now ps → Stores now new qs → Stores old new ps × Stores old new qs
 Stores-then old now new ps qs first second = (
   record { kept = λ path is. second.kept path (first.kept path is); stored = all_kept now new ps second.kept first.stored },

@@ -50,14 +50,14 @@ IsFollowed-up at first current p names k x some within read named f =
       forth = λ h. f.forth (subst (λ (q : Names). IsPathOf at current q) (sym whole) (path_down at current p (take (k - 1) names) x named h));
     }
 
--- no parent of the current node is met by the last of these names
+-- the last of these names leads to no parent of the current node
 pub unfollowed : (at : Lookup) (first current : ℕ) (names : Names) (k : ℕ) (d : Name) → 0 < k → k ≤ length names
     → ((p : ℕ) → IsNamed at current p (get_or names (k - 1) d) → ⊥) → IsFollowed at first current names k → IsPathOf at first names → ⊥
 unfollowed at first current names k d some within unnamed f h =
     let up = path_up at current (take (k - 1) names) (get_or names (k - 1) d) (subst (λ (q : Names). IsPathOf at current q) (last_of names k d some within) (f.back h)) in
     unnamed up.0 up.1
 
--- all names were met
+-- all names were passed
 pub followed : (at : Lookup) (first current : ℕ) (names : Names) (k : ℕ) → k ≡ 0 → IsFollowed at first current names k → (current ≡ 1 → IsPathOf at first names) × (IsPathOf at first names → current ≡ 1)
 followed at first current names k none f =
     let short : take k names ≡ [] = ap (λ (i : ℕ). take i names) none in
@@ -82,7 +82,7 @@ length_of p q n short e = ap (λ (r : Names). length r) e ∙ length-take-le n q
 
 pub ruleset first_names = (prefix_of, is_prefix_of, length_of)
 
--- the prefixes of up to i names are held
+-- the request holds the prefixes with up to i names
 pub record HoldsBelow (held : Held) (path : Names) (i : ℕ) : Type 0 where
   pub below : (j : ℕ) → j < i → IsHeld held (take (j + 1) path)
 

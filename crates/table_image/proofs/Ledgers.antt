@@ -1,4 +1,4 @@
--- What a ledger in order tells, read from its end.
+-- Facts about a ledger in order, read from its end.
 use Rattle.std.proofs.Common.{ℕ, ◌+◌, ◌-◌, ◌<◌, ◌≤◌, ◌≡◌, ◌==◌, ◌&&◌, ◌⊎◌, inl, inr, true, false, cond, List, Contains, length, get_or, take, drop, refl, sym, ap, ◌∙◌, subst, length-take, arith}
 use Rattle.std.specs.Prelude.{All, sum_by, count_by}
 use Rattle.std.proofs.lemmas.Bool.{cases_eq, eq-eqb, eqb-true, cond-true, and_parts, and_from, false_from_ne_true}
@@ -18,7 +18,7 @@ use Rattle.table_image.specs.Parts.{Begins}
 
 -- ---- births
 
--- a beginning of a ledger in order is in order
+-- a prefix of a ledger in order is in order
 pub IsOrdered-take : (ps : Periods) (k : ℕ) → IsOrdered ps → IsOrdered (up_to k ps)
 IsOrdered-take ps k ordered = record {
   each = λ j d within.
@@ -36,7 +36,7 @@ born_in n ps = count_by (is_birth n) ps
 abbrev born_by : ℕ → Posting → ℕ
 born_by n p = cond (is_birth n p) 1 0
 
--- a birth bears the number of births before it
+-- a birth has the number of births before it as its generation
 birth_at : (ps : Periods) (n g k : ℕ) (d : Posting) → IsOrdered ps → k < length ps.last → get_or ps.last k d ≡ Born n g → g ≡ births_of n (up_to k ps)
 birth_at ps n g k d ordered within is = let P : Posting → Type 0 = λ p. MayStand (up_to k ps) p in subst P is (ordered.each k d within)
 
@@ -48,7 +48,7 @@ births_parts : (n : ℕ) (ps : List Posting) (k : ℕ) (d : Posting) → k < len
 births_parts n ps k d within =
     omega (arith, sum_by-take-drop (born_by n) ps k, sum_by-drop_more (born_by n) ps k d within)
 
--- the last birth of a number tells how often it was born
+-- the last birth of a number says how often it was born
 pub last_birth : (ps : Periods) (n g j : ℕ) (d : Posting) → IsOrdered ps → 0 < j → j ≤ length ps.last → get_or ps.last (j - 1) d ≡ Born n g → born_in n (drop j ps.last) ≡ 0
     → g + 1 ≡ births_of n ps
 last_birth ps n g j d ordered some within is none =
@@ -59,13 +59,13 @@ last_birth ps n g j d ordered some within is none =
     let later : born_in n (drop ((j - 1) + 1) ps.last) ≡ 0 = ap (λ (i : ℕ). born_in n (drop i ps.last)) next ∙ none in
     omega (arith, before, one, later, births_parts n ps.last (j - 1) d here)
 
--- ---- beginnings of lives
+-- ---- births and openings
 
--- an opening at a place
+-- an opening at an index
 opening_at : (ps : Periods) (n g c k : ℕ) (d : Posting) → IsOrdered ps → k < length ps.last → get_or ps.last k d ≡ Opening n g c → MayOpen (up_to k ps) n g
 opening_at ps n g c k d ordered within is = let P : Posting → Type 0 = λ p. MayStand (up_to k ps) p in subst P is (ordered.each k d within)
 
--- before a birth no such life was begun
+-- no birth or opening of that number and generation comes before
 unborn_before : (ps : Periods) (n g k : ℕ) (d : Posting) → IsOrdered ps → k < length ps.last → get_or ps.last k d ≡ Born n g → IsBegun (up_to k ps) n g → ⊥
 unborn_before ps n g k d ordered within is (inl first) =
     let qs = up_to k ps in
@@ -78,7 +78,7 @@ unborn_before ps n g k d ordered within is (inr (c, first)) =
     let now = birth_at ps n g k d ordered within is in
     omega (arith, known, now)
 
--- no number's life of one generation is begun twice
+-- no number and generation has two births or openings
 pub begun_once : (ps : Periods) (n g k : ℕ) (d : Posting) → IsOrdered ps → k < length ps.last → Begins (get_or ps.last k d) n g → IsBegun (up_to k ps) n g → ⊥
 begun_once ps n g k d ordered within (inl born) = unborn_before ps n g k d ordered within born
 begun_once ps n g k d ordered within (inr (c, opened)) = (opening_at ps n g c k d ordered within opened).once
@@ -115,12 +115,12 @@ silent n g before (Opening m h c) none here may = let other = other_opening n g 
 nothing : (f : Posting → ℕ) (ps : List Posting) → All (λ p. f p ≡ 0) ps → sum_by f ps ≡ 0
 nothing f ps each = omega (arith, sum_by-le f 0 ps (λ k d within. let zero = each k d within in omega arith))
 
--- what is left of an unborn number and generation: nothing was entered or given
+-- nothing was entered or given back for that number and generation
 pub record IsUnposted (n g : ℕ) (ps : List Posting) : Type 0 where
   pub entries : entered_in n g ps ≡ 0
   pub given : given_in n g ps ≡ 0
 
--- what was begun in a beginning was begun
+-- what has a birth or opening in a prefix has one in the whole
 begun_later : (ps : Periods) (k n g : ℕ) → IsBegun (up_to k ps) n g → IsBegun ps n g
 begun_later ps k n g (inl first) =
     let short : first.0 < k = omega (arith, first.1, length-take k ps.last) in
@@ -142,7 +142,7 @@ unbegun n g ps ordered none =
       given = nothing (given_by n g) ps.last (λ k d within. (each k d within).given);
     }
 
--- so all entries stand from what began them on
+-- so all entries come after the birth or the opening
 pub record IsAllFrom (n g j : ℕ) (ps : List Posting) : Type 0 where
   pub entries : entered_in n g (drop j ps) ≡ entered_in n g ps
   pub given : given_in n g (drop j ps) ≡ given_in n g ps
@@ -161,7 +161,7 @@ all_from_none ps n g j none =
     let first : 0 ≡ j = omega arith in
     subst P first (record { entries = refl; given = refl })
 
--- one posting more is read, from the end
+-- one more posting is read, from the end
 pub record ReadsOn (n g j : ℕ) (ps : List Posting) (p : Posting) : Type 0 where
   pub entries : entered_in n g (drop (j - 1) ps) ≡ entered_by n g p + entered_in n g (drop j ps)
   pub given : given_in n g (drop (j - 1) ps) ≡ given_by n g p + given_in n g (drop j ps)
@@ -177,11 +177,11 @@ reads_on ps n g j d some within =
 
 -- ---- no count is negative
 
--- one posting more of a ledger
+-- one more posting of a ledger
 take_posted : (ps : Periods) (k : ℕ) (d : Posting) → k < length ps.last → up_to (k + 1) ps ≡ posted (up_to k ps) (get_or ps.last k d)
 take_posted ps k d within = ap (λ (l : List Posting). record ps { last = l }) (take_more ps.last k d within)
 
--- after a beginning that is never negative, one more posting that takes no more than is there
+-- a prefix that is never negative, followed by a posting that takes no more than there is
 pub never_negative_more : (ps : Periods) (k : ℕ) (d : Posting) → k < length ps.last → IsNeverNegative (up_to k ps) → IsAllowed (up_to k ps) (get_or ps.last k d) → IsNeverNegative (up_to (k + 1) ps)
 never_negative_more ps k d within before may =
     subst IsNeverNegative (sym (take_posted ps k d within)) (never_negative-push (up_to k ps) (get_or ps.last k d) before may)
@@ -196,14 +196,14 @@ allowed_from before (Back m h) each = let h = rw (self m h) at (each m h) in ome
 allowed_from before (Forget m h k) each = let h = rw (self m h) at (each m h) in omega arith
 allowed_from before (Opening m h k) each = tt
 
--- and each posting of a ledger that is never negative does so
+-- and each posting of a ledger that is never negative is such a posting
 pub allowed_at : (ps : Periods) (k : ℕ) (d : Posting) → k < length ps.last → IsNeverNegative ps → IsAllowed (up_to k ps) (get_or ps.last k d)
 allowed_at ps k d within never = allowed_from (up_to k ps) (get_or ps.last k d) (λ n g.
     omega (arith, never.within (k + 1) n g, sum_by_more (given_by n g) ps.last k d within, sum_by_more (entered_by n g) ps.last k d within))
 
--- ---- lives, by the last posting about them
+-- ---- numbers and generations, by the last posting about them
 
--- from the place on no posting is about n in generation g
+-- from that index on, no posting is about n in generation g
 pub record IsUnmentioned (n g from : ℕ) (ps : List Posting) : Type 0 where
   pub none : (k : ℕ) (d : Posting) → from ≤ k → k < length ps → number_of (get_or ps k d) ≡ n → generation_of (get_or ps k d) ≡ g → ⊥
 
@@ -242,7 +242,7 @@ mentioned_here ps k d ordered within =
       | inr here ↦ begun_here ps k (number_of p) (generation_of p) d within here
     ]
 
--- only of what was begun is there a posting
+-- a posting is about a number and generation only after its birth or opening
 pub mentioned : (ps : Periods) (n g k : ℕ) (d : Posting) → IsOrdered ps → k < length ps.last → (number_of (get_or ps.last k d) ≡ n) × (generation_of (get_or ps.last k d) ≡ g) → IsBegun ps n g
 mentioned ps n g k d ordered within same =
     let P : ℕ → ℕ → Type 0 = λ a b. IsBegun ps a b in
@@ -250,7 +250,7 @@ mentioned ps n g k d ordered within same =
 
 -- ---- what was posted before the last period
 
--- no posting's place depends on the totals that are kept
+-- whether a posting may come at an index does not depend on the kept totals
 stands_with : (births : List KeptBirths) (t u : Totals) (last : List Posting) (p : Posting) → MayStand (record { births = births; totals = t; last = last }) p → MayStand (record { births = births; totals = u; last = last }) p
 stands_with births t u last (Born n g) may = may
 stands_with births t u last (Entry n g) may = may

@@ -1,4 +1,4 @@
--- What holds of each node of a list, and what holds of each node that a look-up gives.
+-- From what holds of each node in a list to what holds of each node that a look-up finds.
 use Rattle.std.proofs.Common.{ℕ, ◌<◌, ◌≡◌, zero, suc, List, [], ◌∷◌, Some, length, get_or, sym, ap, ◌∙◌, subst, inl, inr, arith}
 use Rattle.std.specs.Prelude.{All, AllPairs}
 use Rattle.std.proofs.lemmas.Bool.{cases_order}
@@ -10,15 +10,15 @@ use Rattle.tree.specs.Listed.{node_at, IsDistinct}
 use Rattle.tree.proofs.LookupLemmas.{node_at_number, node_at_some, found_node, node_at_found}
 use Rattle.table_image.specs.Parts.{AreNamesApart, StandApart}
 
--- what holds of each node of the list holds of each that a number leads to
+-- what holds of each node in the list holds of each node found under a number
 pub each_led : (P : Node → Type 0) (xs : List Node) → All P xs → (n : ℕ) (x : Node) → node_at xs n ≡ Some x → P x
 each_led P xs each n x h = let it = found_node xs n x h in subst P (it.2 x) (each it.0 x it.1)
 
--- and the other way round
+-- the converse
 pub each_listed : (P : Node → Type 0) (xs : List Node) → IsDistinct xs → ((x : Node) → node_at xs x.number ≡ Some x → P x) → All P xs
 each_listed P xs distinct each k d within = each (get_or xs k d) (node_at_found xs k d distinct within)
 
--- two nodes of the list have two numbers
+-- two nodes in the list have different numbers
 pub numbers_apart : (xs : List Node) (i j : ℕ) (d : Node) → IsDistinct xs → i < j → j < length xs → (get_or xs i d).number ≡ (get_or xs j d).number → ⊥
 numbers_apart [] i j d distinct before within same = absurd (omega arith)
 numbers_apart (x ∷ xs) i zero d distinct before within same = absurd (omega arith)
@@ -46,11 +46,11 @@ names_same xs pairs m n p name one two =
       ]
     ]
 
--- no two nodes of the list stand at one place
+-- no two nodes in the list have the same place
 pub names_apart : (xs : List Node) → AllPairs StandApart xs → AreNamesApart (node_at xs)
 names_apart xs pairs = record { apart = names_same xs pairs }
 
--- and the other way round
+-- the converse
 pub stand_apart : (xs : List Node) → IsDistinct xs → AreNamesApart (node_at xs) → AllPairs StandApart xs
 stand_apart xs distinct apart i j d before within = record {
   apart = λ key one two.

@@ -1,14 +1,14 @@
--- A relation between each element of a list and all after it, as a loop finds it.
+-- A relation between each element of a list and all later ones, as a loop establishes it.
 use Rattle.std.proofs.Common.{ℕ, ◌+◌, ◌-◌, ◌<◌, ◌≡◌, List, length, get_or, take, drop, sym, ap, ◌∙◌, subst, inl, inr, arith, length-drop}
 use Rattle.std.specs.Prelude.{All, AllPairs}
 use Rattle.std.proofs.lemmas.Bool.{cases_eq}
 use Rattle.std.proofs.lemmas.List.{get_or_default, get_or-drop, take_all}
 
--- what a slice from i on holds
+-- the elements from index i on
 pub slice_from : {A : Type 0} (xs : List A) (i : ℕ) → take (length xs - i) (drop i xs) ≡ drop i xs
 slice_from xs i = take_all (length xs - i) (drop i xs) (omega (arith, length-drop i xs))
 
--- each of the first i elements is related to all after it
+-- each of the first i elements is related to all later ones
 pub record PairsBelow {A : Type 0} (R : A → A → Type 0) (xs : List A) (i : ℕ) : Type 0 where
   pub below : (j k : ℕ) (d : A) → j < i → j < k → k < length xs → R (get_or xs j d) (get_or xs k d)
 
@@ -36,7 +36,7 @@ pairs_below-more {A} R xs i x within read here before = record {
 pub pairs_below-all : {A : Type 0} (R : A → A → Type 0) (xs : List A) (i : ℕ) → i ≡ length xs → PairsBelow R xs i → AllPairs R xs
 pairs_below-all R xs i all before j k d first last = before.below j k d (omega arith) first last
 
--- of all pairs those of one element with the elements after it
+-- from all pairs, those of one element with the later elements
 pub pairs_after : {A : Type 0} (R : A → A → Type 0) (xs : List A) (i : ℕ) (x : A) → i < length xs → x ≡ get_or xs i x → AllPairs R xs → All (R x) (drop (i + 1) xs)
 pairs_after {A} R xs i x within read pairs k d last =
     let far : (i + 1) + k < length xs = omega (arith, length-drop (i + 1) xs, last) in

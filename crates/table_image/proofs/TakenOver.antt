@@ -1,4 +1,4 @@
--- An image of the struct of before is lawful exactly if it is so with nothing closed.
+-- An image of an earlier version is lawful exactly if it is so with no period closed.
 use Rattle.std.proofs.Common.{ℕ, ◌*◌, ◌≤◌, ◌≡◌, inl, inr, Bool, false, List, [], Contains, length, get_or, take, refl, sym, ◌∙◌, arith}
 use Rattle.std.specs.Prelude.{All, sum_by}
 use Rattle.std.proofs.lemmas.Bool.{true≢false}
@@ -16,7 +16,7 @@ use Rattle.table_law.specs.Law.{IsBegun, IsLawful, IsOrdered, MayStand}
 use Rattle.table_image.specs.ImageLaw.{IsLawfulImage}
 use Rattle.table_image.specs.LawOne.{IsLawfulImageOne, IsLawfulOne, IsOrderedOne, MayStandOne, births_among}
 
--- with nothing closed no posting is an opening
+-- without closed periods no posting is an opening
 unopened : (before : List Posting) (p : Posting) → MayStand (unclosed before) p → is_opening p ≡ false
 unopened before (Born n g) may = refl
 unopened before (Entry n g) may = refl
@@ -27,7 +27,7 @@ unopened before (Opening n g k) may = absurd (omega (arith, may.known))
 all_unopened : (ps : List Posting) → IsOrdered (unclosed ps) → All (λ p. is_opening p ≡ false) ps
 all_unopened ps ordered k d within = unopened (take k ps) (get_or ps k d) (ordered.each k d within)
 
--- so each life was begun by a birth
+-- so everything begins with a birth
 born_of : (before : List Posting) (n g : ℕ) → All (λ p. is_opening p ≡ false) before → IsBegun (unclosed before) n g → Contains before (Born n g)
 born_of before n g none (inl born) = born
 born_of before n g none (inr (k, opened)) = absurd (true≢false (All-contains (λ p. is_opening p ≡ false) before (Opening n g k) none opened))

@@ -1,4 +1,4 @@
--- A tree that stands in a list, and its parts.
+-- A tree as a list of nodes, and its parts.
 use Rattle.std.proofs.Common.{List}
 use Rattle.tree.specs.declared.nodes.Node.{Node}
 use Rattle.tree.specs.Places.{IsTree, IsRooted}

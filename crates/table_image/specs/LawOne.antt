@@ -1,4 +1,4 @@
--- The law of an image of the struct of before, which knew no periods.
+-- The law of an image of an earlier version, which had no periods.
 use Rattle.std.specs.Prelude.{ℕ, ◌+◌, ◌<◌, ◌≡◌, ◌≢◌, Bool, List, Some, All, AllPairs, Contains, take, length, slice_index_or, count_by}
 use Rattle.ledger.specs.declared.postings.Posting.{Posting}
 use Rattle.ledger.specs.declared.postings.Posting.TheVariants.{Born, Entry, Back, Forget, Opening}
@@ -15,8 +15,8 @@ use Rattle.table_image.specs.ImageLaw.{AreApart, AreHoldsCounted, AreKnown, is_k
 abbrev pub births_among : ℕ → List Posting → ℕ
 births_among n ps = count_by (is_birth n) ps
 
--- a posting may stand after those: a birth bears the number of births of its number before it as its generation, and all else
--- stands after the birth of its number and generation. Nothing is left of an earlier period
+-- a posting may follow those before it: a birth has as its generation the number of earlier births of its number, and
+-- everything else comes after the birth of its number and generation. Nothing is left of an earlier period
 abbrev pub MayStandOne : List Posting → Posting → Type 0
 MayStandOne before (Born n g) = g ≡ births_among n before
 MayStandOne before (Entry n g) = Contains before (Born n g)

@@ -1,4 +1,4 @@
-//! The data of a table.
+//! The data of a table, without its invariants.
 
 use crate::items::Items;
 use holds::Held;
@@ -7,12 +7,12 @@ use paths::Path;
 use table_files::OpenEntry;
 use tree::Node;
 
-/// How far a request has come.
+/// How far a request is.
 #[derive(Clone, Copy, Debug, PartialEq, Eq)]
 pub enum ImageStage {
-    /// It was begun, and its work goes on.
+    /// It was begun, and work on it is in progress.
     Working,
-    /// Its work has ended, and its reply is not settled yet.
+    /// Work on it has ended, and its reply is not settled yet.
     Answered,
 }
 
@@ -25,33 +25,33 @@ pub type Nodes = Items<Node>;
 /// How often each number was born in closed periods, in any order.
 pub type Births = Items<KeptBirths>;
 
-/// The postings of a period, the oldest first.
+/// The postings of a period, oldest first.
 pub type Postings = Items<Posting>;
 
-/// The records of a table, in any order.
+/// The requests in flight of a table, in any order.
 pub type Records = Items<Record>;
 
 /// The paths that are held in a table, in any order.
 pub type Holds = Items<Hold>;
 
-/// The open files of a table, each under its handle, in any order.
+/// The open files of a table with their handles, in any order.
 pub type OpenFiles = Items<OpenEntry>;
 
 /// A request in flight.
 #[derive(Drop)]
 pub struct Record {
-    /// Tells it from the others of its table.
+    /// Distinguishes it from the others of its table.
     pub id: u64,
-    /// The number that the client gave the request.
+    /// The number of the request at the client.
     pub unique: u64,
     pub stage: ImageStage,
-    /// The nodes that may not go before it is settled.
+    /// The nodes that are kept until it is settled.
     pub pins: Numbers,
-    /// What it holds, for as long as its work goes on.
+    /// What it holds while work on it is in progress.
     pub held: Held,
 }
 
-/// How many of the requests that are worked on hold a path.
+/// How many requests in progress hold a path.
 #[derive(Drop)]
 pub struct Hold {
     pub path: Path,
@@ -65,9 +65,9 @@ pub struct Hold {
 #[derive(Drop)]
 pub struct Image {
     pub nodes: Nodes,
-    /// The births of the periods that are closed.
+    /// The births of the closed periods.
     pub births: Births,
-    /// What was posted in them.
+    /// The totals of the closed periods.
     pub closed: Totals,
     /// The postings of the last period.
     pub postings: Postings,
@@ -76,11 +76,11 @@ pub struct Image {
     pub files: OpenFiles,
     /// The counter of the next hidden name.
     pub counter: u32,
-    /// The last handle that was given to an open file, or 0.
+    /// The last handle that was used, or 0.
     pub last_handle: u64,
 }
 
-/// The struct of before, which knew no periods.
+/// The image of an earlier version, which had no periods.
 #[derive(Drop)]
 pub struct ImageOne {
     pub nodes: Nodes,
@@ -90,6 +90,6 @@ pub struct ImageOne {
     pub files: OpenFiles,
     /// The counter of the next hidden name.
     pub counter: u32,
-    /// The last handle that was given to an open file, or 0.
+    /// The last handle that was used, or 0.
     pub last_handle: u64,
 }

@@ -1,4 +1,4 @@
-//! Lists, as contracts see them.
+//! Lists as contracts see them.
 
 ghost use Rattle.std.specs.Prelude.{◌≡◌, ◌==◌, ◌++◌, [], ◌∷◌, OnOk, OnErr};
 ghost use Rattle.std.specs.List.{list_any};
@@ -6,7 +6,7 @@ ghost use Rattle.std.specs.List.{list_any};
 use std::alloc::{AllocError, Global};
 use std::marker::Model;
 
-/// A list. Contracts see its items alone, and not the room that it has for more.
+/// A list. Contracts see only its items, and not its capacity.
 #[derive(Drop)]
 pub struct Items<T> {
     items: Vec<T>,
@@ -28,7 +28,7 @@ impl<T: Drop> Items<T> {
         Items::from(Vec::new(alloc))
     }
 
-    /// Adds an item after the others. A refused growth changes nothing.
+    /// Appends an item. If memory is refused, nothing changes.
     pub fn add(&mut self, item: T) -> Result<(), AllocError>
         ensures ok { OnOk result (self.new ≡ self.old ++ item ∷ []) }
         ensures err { OnErr result (self.new ≡ self.old) }
@@ -37,7 +37,7 @@ impl<T: Drop> Items<T> {
         Ok(())
     }
 
-    /// No items of another type. It takes no memory.
+    /// An empty list of another item type. It does not allocate.
     pub fn none_of<U>(&self) -> Items<U>
         ensures { result ≡ [] }
     {
@@ -52,7 +52,7 @@ impl<T: Drop> Items<T> {
         self.items.as_slice()
     }
 
-    /// The items, without taking memory.
+    /// The items as a vector. It does not allocate.
     pub fn into_vec(self) -> Vec<T>
         ensures { result.items ≡ self }
     {
@@ -62,7 +62,7 @@ impl<T: Drop> Items<T> {
 }
 
 impl Items<u64> {
-    /// Whether the number is one of them.
+    /// Whether the list has the number.
     pub fn contains(&self, number: u64) -> bool
         ensures { result ≡ list_any (λ m. m == number) self.now }
     {

@@ -27,7 +27,7 @@ use records::{are_all_alive, are_ids_distinct, have_reasons};
 use table_files::OpenEntry;
 use tree::Node;
 
-/// Whether nodes with distinct numbers and the ledger keep the law together.
+/// Whether nodes with distinct numbers and the ledger satisfy the law together.
 fn keep_books(nodes: &[Node], kept: &[KeptBirths], closed: Totals, postings: &[Posting]) -> bool
     requires { IsDistinct nodes.now }
     ensures { IsTrue result ↔ AreBooked (node_at nodes.now) (record { births = kept.now; totals = closed; last = postings.now }) }
@@ -38,7 +38,7 @@ fn keep_books(nodes: &[Node], kept: &[KeptBirths], closed: Totals, postings: &[P
         && are_counted(nodes, kept, postings)
 }
 
-/// Whether nodes with distinct numbers, the records and the open files keep the law together.
+/// Whether nodes with distinct numbers, the requests and the open files satisfy the law together.
 fn keep_nodes(nodes: &[Node], records: &[Record], files: &[OpenEntry]) -> bool
     requires { IsDistinct nodes.now }
     ensures { IsTrue result ↔ AreNodesKept (node_at nodes.now) (is_kept records.now files.now) }
@@ -49,7 +49,7 @@ fn keep_nodes(nodes: &[Node], records: &[Record], files: &[OpenEntry]) -> bool
         && have_reasons(nodes, records, files)
 }
 
-/// Whether nodes with distinct numbers, the ledger, the records and the open files keep the law together.
+/// Whether nodes with distinct numbers, the ledger, the requests and the open files satisfy the law together.
 fn keep_law(
     nodes: &[Node],
     kept: &[KeptBirths],
@@ -67,7 +67,7 @@ fn keep_law(
 impl Image {
     ghost use Rattle.table_image.specs.ImageLaw.{IsLawfulImage};
 
-    /// Whether the image keeps the law of a table. It may hold any data.
+    /// Whether the image satisfies the law of a table. It may have any data.
     pub fn lawful(&self) -> bool
         ensures { IsTrue result ↔ IsLawfulImage self.now }
     {

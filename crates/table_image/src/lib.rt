@@ -1,6 +1,6 @@
-//! A table as plain data, and the law that every table keeps.
+//! A table as plain data, and the law that every table satisfies.
 //!
-//! The law speaks of look-ups and of lists, so that a table may keep its nodes and records in any way.
+//! The law is about look-ups and lists, so that a table may store its nodes and requests in any way.
 #![tactic(auto)]
 
 mod data;

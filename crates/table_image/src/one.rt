@@ -1,4 +1,4 @@
-//! Images of the struct of before.
+//! Taking over images of an earlier version.
 
 ghost use Rattle.std.specs.Prelude.{◌≡◌, ◌↔◌, []};
 ghost use Rattle.ledger.specs.Shares.{nothing};
@@ -10,7 +10,7 @@ impl Image {
     ghost use Rattle.table_image.specs.ImageLaw.{IsLawfulImage};
     ghost use Rattle.table_image.specs.LawOne.{IsLawfulImageOne};
 
-    /// The same data, with no period closed. It takes no memory, and is lawful where the image was.
+    /// The same data, with no period closed. It does not allocate, and the result is lawful if the image was.
     pub fn take_over(one: ImageOne) -> Image
         ensures data { result ≡ record { nodes = one.nodes; births = []; closed = nothing; postings = one.postings; records = one.records; holds = one.holds; files = one.files; counter = one.counter; last_handle = one.last_handle } }
         ensures lawful { IsLawfulImage result ↔ IsLawfulImageOne one }

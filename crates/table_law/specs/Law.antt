@@ -1,5 +1,5 @@
--- The law of a table. It is said of where each number leads (`at`), the ledger, which numbers are kept (those that the
--- records pin and those of open files), and what the records hold.
+-- The law of a table. It is stated about the node of each number (`at`), the ledger, which numbers are kept alive
+-- (those that requests pin and those of open files), and what the requests hold.
 use Rattle.std.specs.Prelude.{ℕ, ◌+◌, ◌<◌, ◌≤◌, ◌≡◌, ◌≢◌, ◌⊎◌, Bool, true, false, Some, All, Contains, length, slice_index_or}
 use Rattle.table_files.specs.declared.data.OpenFile.{OpenFile}
 use Rattle.table_files.specs.declared.listed.OpenEntry.{OpenEntry}
@@ -18,18 +18,19 @@ use Rattle.tree.specs.Places.{Lookup, IsAlive, IsPathOf, IsTree, HasChild}
 
 -- ---- the ledger
 
--- the life of that number and generation was begun in the last period, or went on when it began
+-- that number and generation was born in the last period, or was carried over into it
 abbrev pub IsBegun : Periods → ℕ → ℕ → Type 0
 IsBegun ps n g = Contains ps.last (Born n g) ⊎ ((k : ℕ) × Contains ps.last (Opening n g k))
 
--- what a period begins with stands first, once of each number and generation, and those were born in a closed period
+-- openings come first in a period, at most one for each number and generation, and only for one that was born in a
+-- closed period
 pub record MayOpen (before : Periods) (n g : ℕ) : Type 0 where
   pub first : All (λ p. is_opening p ≡ true) before.last
   pub once : IsBegun before n g → ⊥
   pub known : g < births_closed n before.births
 
--- a posting may stand after those: a birth bears the number of births of its number before it as its generation,
--- and all else stands after what began the life of its number and generation
+-- a posting may follow those before it: a birth has as its generation the number of earlier births of its number, and
+-- everything else comes after the birth or the opening of its number and generation
 abbrev pub MayStand : Periods → Posting → Type 0
 MayStand before (Born n g) = g ≡ births_of n before
 MayStand before (Entry n g) = IsBegun before n g
@@ -42,19 +43,19 @@ pub record IsOrdered (ps : Periods) : Type 0 where
 
 -- ---- nodes and the ledger
 
--- no node bears the number with the generation
+-- no node has this number and generation
 abbrev pub IsUnborne : Lookup → ℕ → ℕ → Type 0
 IsUnborne at n g = (x : Node) → at n ≡ Some x → x.generation ≢ g
 
 pub record IsCounted (at : Lookup) (ps : Periods) : Type 0 where
-  -- each lookup count is its entries less what came back and what was forgotten
+  -- each lookup count is its entries less what was given back and forgotten
   pub counts : (n : ℕ) (x : Node) → at n ≡ Some x → x.count + given_back_of n x.generation ps ≡ entries_of n x.generation ps
-  -- of a number and generation that no node bears, nothing is left
+  -- of a number and generation that no node has, nothing is left
   pub others : (n g : ℕ) → IsUnborne at n g → given_back_of n g ps ≡ entries_of n g ps
-  -- nor was more ever given back and forgotten than entered
+  -- at no time was more given back and forgotten than entered
   pub never_negative : IsNeverNegative ps
 
--- no number was born twice with one generation, and a living node bears the last
+-- no number was born twice with the same generation, and a living node has the last one
 pub record IsBornInOrder (at : Lookup) (ps : Periods) : Type 0 where
   pub ordered : IsOrdered ps
   pub generations : (n : ℕ) (x : Node) → at n ≡ Some x → n ≢ 1 → x.generation + 1 ≡ births_of n ps
@@ -64,38 +65,38 @@ pub record HasPlainRoot (at : Lookup) (ps : Periods) : Type 0 where
   pub plain : (x : Node) → at 1 ≡ Some x → (x.generation ≡ 0) × (x.count ≡ 0) × (x.hidden ≡ false)
   pub unposted : All (λ p. number_of p ≢ 1) ps.last
 
--- a hidden mark stands only on a node that is named
+-- only nodes with a name have a hidden mark
 abbrev pub AreMarksNamed : Lookup → Type 0
 AreMarksNamed at = (n : ℕ) (x : Node) → at n ≡ Some x → x.hidden ≡ true → (key : Key) × (x.place ≡ Named key)
 
--- ---- nodes, and what keeps them
+-- ---- nodes, and what keeps them alive
 
--- each of the numbers is that of a living node
+-- each of these numbers has a living node
 abbrev pub AreAlive : Lookup → (ℕ → Bool) → Type 0
 AreAlive at kept = (n : ℕ) → kept n ≡ true → IsAlive at n
 
--- why a node lives: a lookup count, a hidden mark, a pin or an open file, or a named child
+-- why a node is alive: a lookup count, a hidden mark, a pin or an open file, or a child with a name
 abbrev pub HasReason : Lookup → (ℕ → Bool) → ℕ → Node → Type 0
 HasReason at kept n x = (0 < x.count) ⊎ (x.hidden ≡ true) ⊎ (kept n ≡ true) ⊎ HasChild at n
 
--- each node but the root has a reason
+-- each node except the root has a reason
 abbrev pub HaveReasons : Lookup → (ℕ → Bool) → Type 0
 HaveReasons at kept = (n : ℕ) (x : Node) → at n ≡ Some x → n ≢ 1 → HasReason at kept n x
 
--- the node of the open file lives, with the generation that it had then
+-- the node of the open file is alive, with the generation that it had when the file was opened
 pub record HasNode (at : Lookup) (file : OpenFile) : Type 0 where
   pub node : Node
   pub here : at file.number ≡ Some node
   pub generation : node.generation ≡ file.generation
 
--- besides, its handle was given
+-- in addition, its handle was given out
 pub record IsKnownFile (at : Lookup) (last : ℕ) (f : OpenEntry) : Type 0 where
   pub node : HasNode at f.file
   pub given : f.handle ≤ last
 
 -- ---- what requests hold
 
--- the path given for a node leads to it, and each prefix of it is held
+-- the path recorded for a node leads to it, and the request holds each prefix of it
 pub record IsGivenPath (at : Lookup) (held : Held) (lead : GivenPath) : Type 0 where
   pub path : IsPathOf at lead.number lead.path
   pub prefixes : (prefix : Names) → IsSomePrefix prefix lead.path → IsHeld held prefix
@@ -103,14 +104,14 @@ pub record IsGivenPath (at : Lookup) (held : Held) (lead : GivenPath) : Type 0 w
 -- ---- the law
 
 pub record IsLawful (at : Lookup) (ps : Periods) (kept : ℕ → Bool) : Type 0 where
-  -- the root alone is the root, names under a parent are distinct, and parents lead to the root
+  -- only the root has no parent and is not cut, names under a parent are distinct, and parents lead to the root
   pub tree : IsTree at
   pub root : HasPlainRoot at ps
   pub counted : IsCounted at ps
   pub born : IsBornInOrder at ps
-  -- what is kept of closed periods fits together
+  -- what is kept of closed periods is consistent
   pub carried : IsCarriedOver ps
   pub marks : AreMarksNamed at
-  -- a pin and an open file name a living node
+  -- a pin or an open file is always of a living node
   pub alive : AreAlive at kept
   pub reasons : HaveReasons at kept

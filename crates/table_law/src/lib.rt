@@ -1,2 +1,3 @@
-//! The law of a table, said of look-ups and of the ledger: definitions alone, for the steps of the table and for images of it.
+//! The law of a table, stated about look-ups and the ledger. It is definitions only, for the steps of the table and for
+//! images of it.
 #![tactic(auto)]

@@ -1,4 +1,4 @@
--- Requests by their ids, after one was added, changed or taken out.
+-- Requests by their ids, after one was added, changed or removed.
 use Rattle.std.proofs.Common.{ℕ, ◌≡◌, ◌==◌, ◌||◌, Bool, true, false, [], ◌∷◌, Some, None, refl, sym, ap, ◌∙◌, subst, arith, ◌⊎◌, inl, inr}
 use Rattle.std.proofs.lemmas.Bool.{cases_eq, ne_eqb, eq-eqb, cond-true, cond-false}
 use Rattle.std.proofs.lemmas.Bool.Decides.{nat_tests}
@@ -21,14 +21,14 @@ without_other at n m ne = cond-false (n == m) None (at m) (ne_eqb n m ne)
 pub without_same : (at : RequestsInFlight) (n : ℕ) → without_flight at n n ≡ None
 without_same at n = cond-true (n == n) None (at n) (eq-eqb n n refl)
 
--- who is found after one was taken out was found before, and is another
+-- a request found after one was removed was found before, and is another one
 pub without_some : (at : RequestsInFlight) (n m : ℕ) (f : RequestInFlight) → without_flight at n m ≡ Some f → (n ≡ m → ⊥) × (at m ≡ Some f)
 without_some at n m f h = elim (cases_eq n m) [
   | inl e ↦ absurd (none-some f (sym (subst (λ k. without_flight at n k ≡ None) e (without_same at n)) ∙ h))
   | inr ne ↦ (ne, sym (without_other at n m ne) ∙ h)
 ]
 
--- who is found after a write is the written one, or was found before
+-- a request found after a write is the written one, or was found before
 pub with_some : (at : RequestsInFlight) (n : ℕ) (g : RequestInFlight) (m : ℕ) (f : RequestInFlight) → with_flight at n g m ≡ Some f → ((n ≡ m) × (g ≡ f)) ⊎ ((n ≡ m → ⊥) × (at m ≡ Some f))
 with_some at n g m f h = elim (cases_eq n m) [
   | inl e ↦ inl (e, same_Some g f (sym (subst (λ k. with_flight at n g k ≡ Some g) e (with_same at n g)) ∙ h))
@@ -51,7 +51,7 @@ without_with at n f h = fun_ext (λ m. elim (cases_eq n m) [
 pub without_swap : (at : RequestsInFlight) (n k : ℕ) (f : RequestInFlight) → (n ≡ k → ⊥) → with_flight (without_flight at k) n f ≡ without_flight (with_flight at n f) k
 without_swap at n k f ne = fun_ext (λ m. grind (arith, nat_tests))
 
--- who is found after a step is the one of the step, or was found before
+-- a request found after a step is the one of the step, or was found before
 pub Adds_found : (old new : RequestMaps) (g : RequestInFlight) → Adds old g new → (k : ℕ) (f : RequestInFlight) → new.at k ≡ Some f → ((g.id ≡ k) × (g ≡ f)) ⊎ ((g.id ≡ k → ⊥) × (old.at k ≡ Some f))
 Adds_found old new g adds k f h = with_some old.at g.id g k f (sym (ap (λ (at : RequestsInFlight). at k) adds.at) ∙ h)
 

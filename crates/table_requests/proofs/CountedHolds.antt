@@ -1,4 +1,4 @@
--- How many requests hold a path, over each step, and who is in the way of what.
+-- How many requests hold a path, over each step, and when requests conflict.
 use Rattle.std.proofs.Common.{ℕ, ◌+◌, ◌<◌, ◌≤◌, ◌≡◌, ◌⊎◌, ◌&&◌, if◌then◌else◌, cond, Bool, true, List, [], ◌∷◌, ◌++◌, Option, Some, None, IfNone, IfSome, Any, Contains, length, get_or, set, refl, sym, ap, ◌∙◌, subst, inl, inr, arith}
 use Rattle.std.specs.Prelude.{count_by, unwrap_or}
 use Rattle.std.specs.List.{remove}
@@ -29,14 +29,14 @@ use Rattle.table_requests.proofs.ById.{with_other, with_same, without_other, wit
 use Rattle.table_requests.proofs.InTheWay.{held_up_at, owned_at}
 use Rattle.table_requests.proofs.Lookups.{flight_in-push, found_flight}
 
--- ---- what a request holds that is worked on
+-- ---- what a request in progress holds
 
--- what is held is held by work
+-- only a request in progress holds anything
 work_at : (st : Stage) (h : Held) → held_at st ≡ Some h → (work : Work) × (st ≡ Working work) × (work.held ≡ h)
 work_at (Working work) h e = (work, refl, same_Some work.held h e)
 work_at (Answered before opened) h e = absurd (none-some h e)
 
--- who holds it is found
+-- a request that holds something is found
 flight_of : (o : Option RequestInFlight) (h : Held) → held_by o ≡ Some h → (f : RequestInFlight) × (o ≡ Some f) × (held_at f.stage ≡ Some h)
 flight_of None h e = absurd (none-some h e)
 flight_of (Some f) h e = (f, refl, e)
@@ -49,12 +49,12 @@ cases_held : (o : Option Held) → (o ≡ None) ⊎ ((h : Held) × (o ≡ Some h
 cases_held None = inl refl
 cases_held (Some h) = inr (h, refl)
 
--- the same is held under an id where the same is held under each
+-- if each id holds the same, a given id does
 under_same : (fs gs : List RequestInFlight) → ((k : ℕ) → held_by (flight_in gs k) ≡ held_by (flight_in fs k)) → (u : Option ℕ) → held_under gs u ≡ held_under fs u
 under_same fs gs same None = refl
 under_same fs gs same (Some id) = same id
 
--- a write that keeps what is held
+-- a write that does not change what is held
 pub under_with : (fs gs : List RequestInFlight) (id : ℕ) (f g : RequestInFlight) → flight_in fs id ≡ Some f → held_at g.stage ≡ held_at f.stage → flight_in gs ≡ with_flight (flight_in fs) id g
     → (k : ℕ) → held_by (flight_in gs k) ≡ held_by (flight_in fs k)
 under_with fs gs id f g here same at k = elim (cases_eq id k) [
@@ -67,7 +67,7 @@ pub noted_holds : (st : Stage) (handle : ℕ) → held_at (with_opened st handle
 noted_holds (Working work) handle = refl
 noted_holds (Answered before opened) handle = refl
 
--- one that was answered is taken out
+-- an answered request is removed
 pub under_without : (fs gs : List RequestInFlight) (id before : ℕ) (opened : Option ℕ) (f : RequestInFlight) → flight_in fs id ≡ Some f → f.stage ≡ Answered before opened → flight_in gs ≡ without_flight (flight_in fs) id
     → (k : ℕ) → held_by (flight_in gs k) ≡ held_by (flight_in fs k)
 under_without fs gs id before opened f here stage at k = elim (cases_eq id k) [
@@ -78,14 +78,14 @@ under_without fs gs id before opened f here stage at k = elim (cases_eq id k) [
 
 -- ---- the numbers over each step
 
--- where no path is counted, none is held exclusively
+-- if no path is counted, none is held exclusively
 pub none_counted : (numbers : HoldNumbers) → AreNumbers numbers → (path : Names) → numbers.paths ≡ 0 → 0 < (holders_on numbers path).exclusive → ⊥
 none_counted numbers law path none some =
     let is : holders_on numbers path ≡ no_holders = ap (λ (o : Option Holders). unwrap_or o no_holders) (none_found numbers.by_path (sym law.counted ∙ none) path) in
     let e = ap (λ (h : Holders). h.exclusive) is in
     omega (arith, some, e)
 
--- nobody holds anything
+-- no request holds anything
 pub holders_none : (numbers : HoldNumbers) → ((path : Names) → holders_on numbers path ≡ no_holders) → AreNumbers numbers → AreHolders (record { numbers = numbers; uncounted = None }) []
 holders_none numbers none law = record {
   law = law;
@@ -94,7 +94,7 @@ holders_none numbers none law = record {
   there = λ e. refl;
 }
 
--- the numbers are told anew
+-- the numbers are written with the same values
 pub holders_same : (held : HeldPaths) (new : HoldNumbers) (fs : List RequestInFlight) → ((path : Names) → holders_on new path ≡ holders_on held.numbers path) → AreNumbers new → AreHolders held fs
     → AreHolders (record { numbers = new; uncounted = held.uncounted }) fs
 holders_same held new fs same law told = record {
@@ -112,7 +112,7 @@ module _ (held : HeldPaths) (fs : List RequestInFlight) (g : RequestInFlight) (f
   owners_more : (path : Names) → owners_in (fs ++ g ∷ []) path ≡ owners_in fs path + (if has_exclusive g.stage path then 1 else 0)
   owners_more path = sum_by_push (λ (f : RequestInFlight). cond (has_exclusive f.stage path) 1 0) fs g
 
-  -- who is not counted has another id
+  -- the uncounted request has another id
   under_still : (u : Option ℕ) → (held_under fs u ≡ None → u ≡ None) → held_under (fs ++ g ∷ []) u ≡ held_under fs u
   under_still None there = refl
   under_still (Some id) there =
@@ -122,7 +122,7 @@ module _ (held : HeldPaths) (fs : List RequestInFlight) (g : RequestInFlight) (f
   still : held_under (fs ++ g ∷ []) held.uncounted ≡ held_under fs held.uncounted
   still = under_still held.uncounted told.there
 
-  -- the numbers are raised by what it holds
+  -- the numbers are raised by what the new request holds
   holders_added : (new : HoldNumbers) → AreNumbers new
       → ((path : Names) → (holders_on new path).shared ≡ (holders_on held.numbers path).shared + (if has_shared g.stage path then 1 else 0))
       → ((path : Names) → (holders_on new path).exclusive ≡ (holders_on held.numbers path).exclusive + (if has_exclusive g.stage path then 1 else 0))
@@ -134,21 +134,21 @@ module _ (held : HeldPaths) (fs : List RequestInFlight) (g : RequestInFlight) (f
     there = λ e. told.there (sym still ∙ e);
   }
 
-  -- it is counted
+  -- the new request is counted
   pub holders_counted : (work : Work) (new : HoldNumbers) → g.stage ≡ Working work → AreNumbers new → Adds held.numbers work.held new → AreHolders (record { numbers = new; uncounted = held.uncounted }) (fs ++ g ∷ [])
   holders_counted work new stage law adds =
       holders_added new law
       (λ path. let e : cond (has_shared g.stage path) 1 0 ≡ counted_in work.held.shared path 1 = ap (λ (st : Stage). cond (has_shared st path) 1 0) stage in let now = adds.shared path in omega (arith, e, now))
       (λ path. let e : cond (has_exclusive g.stage path) 1 0 ≡ counted_in work.held.exclusive path 1 = ap (λ (st : Stage). cond (has_exclusive st path) 1 0) stage in let now = adds.exclusive path in omega (arith, e, now))
 
-  -- it is worked on no longer, and holds nothing
+  -- the new request is not in progress, and holds nothing
   pub holders_more : (before : ℕ) (opened : Option ℕ) → g.stage ≡ Answered before opened → AreHolders held (fs ++ g ∷ [])
   holders_more before opened stage =
       holders_added held.numbers told.law
       (λ path. let e : ◌≡◌ {A = ℕ} (cond (has_shared g.stage path) 1 0) 0 = ap (λ (st : Stage). cond (has_shared st path) 1 0) stage in omega (arith, e))
       (λ path. let e : ◌≡◌ {A = ℕ} (cond (has_exclusive g.stage path) 1 0) 0 = ap (λ (st : Stage). cond (has_exclusive st path) 1 0) stage in omega (arith, e))
 
-  -- it is the one that is not counted
+  -- the new request is the uncounted one
   pub holders_noted : (work : Work) → g.stage ≡ Working work → held.uncounted ≡ None → AreHolders (record { numbers = held.numbers; uncounted = Some g.id }) (fs ++ g ∷ [])
   holders_noted work stage nobody =
       let now : held_by (flight_in (fs ++ g ∷ []) g.id) ≡ Some work.held =
@@ -207,7 +207,7 @@ holder_lost fs gs i id room room' within (Some work) working written answers d =
       omega (arith, s, is, was);
 }
 
--- a write that keeps what a request holds
+-- a write that does not change what a request holds
 holders_set : (fs gs : List RequestInFlight) (i : ℕ) (y d : RequestInFlight) → i < length fs → gs ≡ set fs i y → ((path : Names) → has_shared y.stage path ≡ has_shared (get_or fs i d).stage path) → ((path : Names) → has_exclusive y.stage path ≡ has_exclusive (get_or fs i d).stage path) → HaveSameHolders fs gs
 holders_set fs gs i y d within written shared exclusive = record {
   shared = λ path.
@@ -236,7 +236,7 @@ exclusive_noted (Answered before opened) handle path = refl
 pub holders_opening : (fs gs : List RequestInFlight) (i handle : ℕ) → i < length fs → ((d : RequestInFlight) → gs ≡ set fs i (opening (get_or fs i d) handle)) → (d : RequestInFlight) → HaveSameHolders fs gs
 holders_opening fs gs i handle within written d = holders_set fs gs i (opening (get_or fs i d) handle) d within (written d) (shared_noted (get_or fs i d).stage handle) (exclusive_noted (get_or fs i d).stage handle)
 
--- a request that was answered is taken out, if one is
+-- a request is removed if it was answered
 pub holders_taken : (fs gs : List RequestInFlight) (i : ℕ) → i < length fs → (o : Option EndedRequest) → IfNone o (gs ≡ fs) → IfSome o (λ ended. (d : RequestInFlight) → (get_or fs i d).stage ≡ Answered ended.before ended.opened) → IfSome o (λ _. gs ≡ remove fs i)
     → (d : RequestInFlight) → HaveSameHolders fs gs
 holders_taken fs gs i within None same stage is d = subst (λ (hs : List RequestInFlight). HaveSameHolders fs hs) (sym same) (same_holders fs)
@@ -270,7 +270,7 @@ some_counted test fs some = Any-from_list_any test fs (sym (any_counted test fs)
 counted_some : (test : RequestInFlight → Bool) (fs : List RequestInFlight) (i : ℕ) (d : RequestInFlight) → i < length fs → test (get_or fs i d) ≡ true → 0 < count_by test fs
 counted_some test fs i d within h = ltb-true 0 (count_by test fs) (any_counted test fs ∙ list_any_at test fs i d within h)
 
--- what one that is not counted holds counts for one request at most
+-- what the uncounted request holds counts for at most one
 module _ (fs : List RequestInFlight) where
   sharer_there : (u : Option ℕ) (path : Names) → shared_once (held_under fs u) path ≤ sharers_in fs path
   sharer_there u path = elim (cases_held (held_under fs u)) [
@@ -316,7 +316,7 @@ module _ (held : HeldPaths) (fs gs : List RequestInFlight) (id : ℕ) (h : Held)
   under_other None ne = refl
   under_other (Some k) ne = lost.others k (λ e. ne (ap (λ (n : ℕ). Some n) (sym e)))
 
-  -- what it held is counted, where it is not the one that is not counted
+  -- what it held is counted, unless it is the uncounted one
   pub sharer_counted : (held.uncounted ≡ Some id → ⊥) → (path : Names) → counted_in h.shared path 1 ≤ (holders_on held.numbers path).shared
   sharer_counted ne path =
       let was = told.shared path in
@@ -333,7 +333,7 @@ module _ (held : HeldPaths) (fs gs : List RequestInFlight) (id : ℕ) (h : Held)
       let e = ap (λ (o : Option Held). owned_once o path) (under_other held.uncounted ne) in
       omega (arith, was, less, most, e)
 
-  -- what it held is dropped
+  -- what it held is removed from the numbers
   pub holders_dropped : (new : HoldNumbers) → (held.uncounted ≡ Some id → ⊥) → AreNumbers new
       → ((path : Names) → (holders_on held.numbers path).shared ≡ (holders_on new path).shared + counted_in h.shared path 1)
       → ((path : Names) → (holders_on held.numbers path).exclusive ≡ (holders_on new path).exclusive + counted_in h.exclusive path 1)
@@ -347,7 +347,7 @@ module _ (held : HeldPaths) (fs gs : List RequestInFlight) (id : ℕ) (h : Held)
         there = λ e. told.there (sym still ∙ e);
       }
 
-  -- it is the one that is not counted
+  -- it is the uncounted one
   pub holders_left : held.uncounted ≡ Some id → AreHolders (record { numbers = held.numbers; uncounted = None }) gs
   holders_left is =
       let here : held_under fs held.uncounted ≡ Some h = ap (held_under fs) is ∙ lost.here in
@@ -358,7 +358,7 @@ module _ (held : HeldPaths) (fs gs : List RequestInFlight) (id : ℕ) (h : Held)
         there = λ e. refl;
       }
 
--- ---- who is in the way
+-- ---- conflicts
 
 module _ (fs : List RequestInFlight) where
   owner_counts : (i : ℕ) (work : Work) (path : Names) → i < length fs → ((d : RequestInFlight) → (get_or fs i d).stage ≡ Working work) → (d : RequestInFlight) → Contains work.held.exclusive path → 0 < owners_in fs path
@@ -378,7 +378,7 @@ owned_by (Working work) path h = (work, refl, among_contains work.held.exclusive
 owned_by (Answered before opened) path h = absurd (false≢true h)
 
 module _ (held : HeldPaths) (fs : List RequestInFlight) (apart : HaveOwnIds fs) (told : AreHolders held fs) where
-  -- what the one holds that is not counted meets this
+  -- what the uncounted request holds conflicts with this
   abbrev One : (Held → Type 0) → Type 0
   One P = (h : Held) × (held_under fs held.uncounted ≡ Some h) × P h
 
@@ -388,7 +388,7 @@ module _ (held : HeldPaths) (fs : List RequestInFlight) (apart : HaveOwnIds fs) 
   some_owner : (path : Names) → 0 < (holders_on held.numbers path).exclusive → Any (λ (f : RequestInFlight). has_exclusive f.stage path ≡ true) fs
   some_owner path some = let e = told.exclusive path in some_counted (λ (f : RequestInFlight). has_exclusive f.stage path) fs (omega (arith, some, e))
 
-  -- a path that is held has a number, or the one that is not counted holds it
+  -- a path that is held has a number, or the uncounted request holds it
   sharer_or : (path : Names) → 0 < sharers_in fs path → (0 < (holders_on held.numbers path).shared) ⊎ One (λ h. Contains h.shared path)
   sharer_or path some = elim (cases_held (held_under fs held.uncounted)) [
     | inl none ↦ let e = ap (λ (o : Option Held). shared_once o path) none in let all = told.shared path in inl (omega (arith, some, e, all))
@@ -408,7 +408,7 @@ module _ (held : HeldPaths) (fs : List RequestInFlight) (apart : HaveOwnIds fs) 
   ]
 
   module _ (wanted : Held) where
-    -- a request of the list whose work is in the way
+    -- a request in the list conflicts
     up_by : (j : ℕ) (f : RequestInFlight) → j < length fs → get_or fs j f ≡ f → IsInTheWay f.stage wanted → HoldsUp (flight_in fs) wanted
     up_by j f within e way = held_up_at fs j f wanted apart within (subst (λ (g : RequestInFlight). IsInTheWay g.stage wanted) (sym e) way)
 
@@ -431,7 +431,7 @@ module _ (held : HeldPaths) (fs : List RequestInFlight) (apart : HaveOwnIds fs) 
         let own = by.2 in
         up_by it.0 it.1 it.2 it.3 (subst (λ (st : Stage). IsInTheWay st wanted) (sym by.1) (inl (inr (own.0, path, own.1, own.2, shared))))
 
-    -- what is counted is in the way
+    -- a counted request conflicts
     pub held_up : IsHeldUp held.numbers wanted → HoldsUp (flight_in fs) wanted
     held_up (inl h) = elim (cases_lt 0 (holders_on held.numbers h.1).shared) [
       | inl some ↦ by_sharer h.1 (h.0, h.2, h.3) some
@@ -439,7 +439,7 @@ module _ (held : HeldPaths) (fs : List RequestInFlight) (apart : HaveOwnIds fs) 
     ]
     held_up (inr h) = shared_by_owner h.1 (h.0, h.2, h.3) h.4
 
-    -- the one that is not counted is in the way
+    -- the uncounted request conflicts
     pub up_by_one : One (λ h. Conflict h wanted) → HoldsUp (flight_in fs) wanted
     up_by_one one =
         let it = under_found fs held.uncounted one.0 one.1 in
@@ -470,7 +470,7 @@ module _ (held : HeldPaths) (fs : List RequestInFlight) (apart : HaveOwnIds fs) 
       | inr (h, is, own) ↦ inr (h, is, inr (inr (o.0, o.1, o.2, o.3, own)))
     ]
 
-    -- who is in the way is counted, or the one that is not counted is
+    -- a conflicting request is counted, or is the uncounted one
     pub up_held : HoldsUp (flight_in fs) wanted → IsHeldUp held.numbers wanted ⊎ One (λ h. Conflict h wanted)
     up_held h =
         let it = found_flight fs h.id h.flight h.here in
@@ -487,7 +487,7 @@ module _ (held : HeldPaths) (fs : List RequestInFlight) (apart : HaveOwnIds fs) 
       let by = owned_by it.1.stage path it.4 in
       owned_at fs it.0 it.1 path apart it.2 (subst (λ (f : RequestInFlight). HoldsExclusively f.stage path) (sym it.3) (subst (λ (st : Stage). HoldsExclusively st path) (sym by.1) by.2))
 
-  -- the one that is not counted holds it
+  -- the uncounted request holds it
   pub owned_by_one : (path : Names) → One (λ h. Contains h.exclusive path) → HasExclusiveHolder (flight_in fs) path
   owned_by_one path one =
       let it = under_found fs held.uncounted one.0 one.1 in

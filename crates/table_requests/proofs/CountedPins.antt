@@ -15,7 +15,7 @@ use Rattle.table_requests.specs.PinCounts.{AreCounted, counted_in, pins_in, time
 use Rattle.table_requests.specs.RequestMaps.{answered, opening, pinning, pins_number}
 use Rattle.table_requests.proofs.PinCounting.{counts_as, same_totals}
 
--- a sum is above 0 where one of two parts is
+-- a sum is above 0 if one of its two parts is
 lt_sum : (a b : ℕ) → nat_lt 0 (a + b) ≡ (nat_lt 0 a || nat_lt 0 b)
 lt_sum a b = elim (cases_Bool (nat_lt 0 a)) [
   | inl hit ↦ let more = ltb-true 0 a hit in lt-ltb 0 (a + b) (omega (arith, more)) ∙ sym (ap (λ c. c || nat_lt 0 b) hit)
@@ -25,7 +25,7 @@ lt_sum a b = elim (cases_Bool (nat_lt 0 a)) [
       ap (nat_lt 0) rest ∙ sym (ap (λ c. c || nat_lt 0 b) miss)
 ]
 
--- a number is pinned where it is pinned once or more
+-- a number is pinned if it is pinned once or more
 pub pinned_counted : (fs : List RequestInFlight) (n : ℕ) → nat_lt 0 (pins_in fs n) ≡ pinned_in fs n
 pinned_counted [] n = refl
 pinned_counted (f ∷ fs) n =
@@ -43,7 +43,7 @@ module _ (fs : List RequestInFlight) (counts : PinCounts) (counted : AreCounted 
   pub pinned_if_counted : 0 < counted_in counts.by_number.items n → pinned_in fs n ≡ true
   pinned_if_counted some = let here = counted.exact n in sym (pinned_counted fs n) ∙ lt-ltb 0 (pins_in fs n) (omega (arith, here, some))
 
-  -- where no pin is loose, a number that is not counted is not pinned
+  -- if no pin is loose, a number that is not counted is not pinned
   pub not_pinned : counted_in counts.by_number.items n ≡ 0 → counts.loose ≡ 0 → pinned_in fs n ≡ false
   not_pinned none tight =
       let here = counted.exact n in
@@ -55,7 +55,7 @@ pub pinned_there : (v : Vec RequestInFlight Global) (all : InFlight) → in_flig
 unfolding requests_of
 pinned_there v all is n b e = subst (λ (a : InFlight). b ≡ pinned_in a.flights n) is (sym e)
 
--- the pins of a list after a request was added, changed or taken out
+-- the pins of a list after a request was added, changed or removed
 pub pins_in-push : (fs : List RequestInFlight) (g : RequestInFlight) (n : ℕ) → pins_in fs n + times n g.pins.numbers ≡ pins_in (fs ++ g ∷ []) n
 pins_in-push fs g n = sym (sum_by_push (λ (f : RequestInFlight). times n f.pins.numbers) fs g)
 
@@ -93,6 +93,6 @@ taken_pins fs gs i d within (Some ended) pins is = λ n.
     ap (λ (hs : List RequestInFlight). pins_in hs n + times n ended.pins.numbers) is
     ∙ (ap (λ (p : Pinned). pins_in (remove fs i) n + times n p.numbers) (sym (pins d)) ∙ pins_in-remove fs i d n within)
 
--- the counts, once pins were taken back
+-- the counts after pins were taken back
 pub counted_back : (fs gs : List RequestInFlight) (counts : PinCounts) (ns : List ℕ) → ((n : ℕ) → pins_in gs n + times n ns ≡ pins_in fs n) → AreCounted counts (λ n. pins_in fs n - times n ns) → AreCounted counts (pins_in gs)
 counted_back fs gs counts ns less counted = same_totals counts _ (pins_in gs) (λ n. let e = less n in omega (arith, e)) counted

@@ -1,4 +1,4 @@
--- Whether some request of a list is in the way, and by its id.
+-- Whether some request in a list conflicts, and the same by ids.
 use Rattle.std.proofs.Common.{ℕ, ◌<◌, List, length, get_or}
 use Rattle.paths.specs.Prefixes.{Names}
 use Rattle.holds.specs.declared.held.Held.{Held}

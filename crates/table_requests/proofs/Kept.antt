@@ -1,4 +1,4 @@
--- What the pins and totals of a list are after a request was added, changed or taken out, and the law that a list keeps.
+-- The pins and totals of a list after a request was added, changed or removed, and the invariant of a list.
 use Rattle.std.proofs.Common.{ℕ, ◌-◌, ◌<◌, ◌≡◌, ◌==◌, ◌||◌, suc, zero, Bool, true, false, List, [], ◌∷◌, ◌++◌, Some, Vec, vec_len, vec_capacity, length, get_or, set, refl, sym, ap, ◌∙◌, subst, arith}
 use Rattle.std.specs.List.{remove, list_any}
 use Rattle.std.proofs.lemmas.List.Folds.{list_any-append, list_any_at, Any-from_list_any}
@@ -31,7 +31,7 @@ or_comm true false = refl
 or_comm false true = refl
 or_comm false false = refl
 
--- an element passes where another did, or for one reason more
+-- an element passes if another did, or for one more reason
 list_any-set : {X : Type 0} → (p : X → Bool) (xs : List X) (i : ℕ) (y d : X) (b : Bool) → i < length xs → p y ≡ (p (get_or xs i d) || b) → list_any p (set xs i y) ≡ (list_any p xs || b)
 list_any-set p [] i y d b within h = absurd (omega arith)
 list_any-set p (x ∷ xs) zero y d b within h = ap (λ c. c || list_any p xs) h ∙ or_later (p x) b (list_any p xs)
@@ -54,7 +54,7 @@ pinned_in-pinning fs i d n within = fun_ext (λ m. list_any-set (λ (f : Request
 pub pinned_in-remove : (fs : List RequestInFlight) (i : ℕ) (d : RequestInFlight) (n : ℕ) → i < length fs → pinned_in fs n ≡ (pinned_in (remove fs i) n || pins_number (get_or fs i d) n)
 pinned_in-remove fs i d n within = list_any-remove (λ (f : RequestInFlight). pins_number f n) fs i d within
 
--- the law of a list in which no id stands twice
+-- the invariant of a list in which no id comes twice
 listed : (fs : List RequestInFlight) (room : ℕ) → HaveOwnIds fs → AreLawfulRequests (requests_of (record { flights = fs; room = room }))
 unfolding requests_of
 listed fs room apart = record {

@@ -1,4 +1,4 @@
--- What a look-up gives after a request was added, changed or taken out.
+-- A look-up after a request was added, changed or removed.
 use Rattle.std.proofs.Common.{ℕ, ◌+◌, ◌<◌, ◌≤◌, ◌≡◌, ◌≢◌, suc, zero, List, [], ◌∷◌, ◌++◌, Option, Some, None, length, get_or, slice_get, set, drop, drop-cons, add-one, refl, sym, ap, ◌∙◌, subst, arith, ◌⊎◌, inl, inr}
 use Rattle.std.specs.List.{remove}
 use Rattle.std.proofs.lemmas.Bool.{cases_eq}
@@ -11,7 +11,7 @@ use Rattle.table_requests.specs.RequestMaps.{RequestsInFlight, with_flight, with
 use Rattle.table_requests.specs.Listed.{flight_in, HaveOwnIds}
 use Rattle.table_requests.proofs.ById.{with_same, with_other, with_some, with_swap, with_twice, without_other, without_with, without_swap}
 
--- the request that an id leads to has it
+-- the request found under an id has that id
 pub flight_in_id : (fs : List RequestInFlight) (n : ℕ) (f : RequestInFlight) → flight_in fs n ≡ Some f → f.id ≡ n
 flight_in_id [] n f h = absurd (none-some f h)
 flight_in_id (g ∷ gs) n f h = elim (with_some (flight_in gs) g.id g n f h) [
@@ -19,12 +19,12 @@ flight_in_id (g ∷ gs) n f h = elim (with_some (flight_in gs) g.id g n f h) [
   | inr (ne, later) ↦ flight_in_id gs n f later
 ]
 
--- none of the list has the id
+-- no request in the list has the id
 none_in : (fs : List RequestInFlight) (n : ℕ) → ((j : ℕ) (d : RequestInFlight) → j < length fs → (get_or fs j d).id ≡ n → ⊥) → flight_in fs n ≡ None
 none_in [] n h = refl
 none_in (g ∷ gs) n h = with_other (flight_in gs) g.id g n (h 0 g (omega arith)) ∙ none_in gs n (λ j d below. h (suc j) d (omega arith))
 
--- no id twice, seen from the prefix
+-- no id comes twice, seen from a prefix of the list
 pub first_apart : (f : RequestInFlight) (fs : List RequestInFlight) → HaveOwnIds (f ∷ fs) → flight_in fs f.id ≡ None
 first_apart f fs apart = none_in fs f.id (λ j d below e. apart 0 (suc j) d (omega arith) (omega arith) (sym e))
 
@@ -40,14 +40,14 @@ flight_in_some (f ∷ fs) (suc i) d within h = elim (cases_eq f.id (get_or fs i 
   | inr ne ↦ flight_in_some fs i d (omega arith) (sym (with_other (flight_in fs) f.id f (get_or fs i d).id ne) ∙ h)
 ]
 
--- the one that is found at an index where an id leads
+-- the request found under an id is the one at its index
 pub flight_in_found : (fs : List RequestInFlight) (i : ℕ) (d : RequestInFlight) → HaveOwnIds fs → i < length fs → flight_in fs (get_or fs i d).id ≡ Some (get_or fs i d)
 flight_in_found [] i d apart within = absurd (omega arith)
 flight_in_found (f ∷ fs) zero d apart within = with_same (flight_in fs) f.id f
 flight_in_found (f ∷ fs) (suc i) d apart within =
     with_other (flight_in fs) f.id f (get_or fs i d).id (λ e. flight_in_some fs i d (omega arith) (ap (flight_in fs) (sym e) ∙ first_apart f fs apart)) ∙ flight_in_found fs i d (rest_apart f fs apart) (omega arith)
 
--- where in the list the request is that an id leads to
+-- the index of the request found under an id
 pub found_flight : (fs : List RequestInFlight) (n : ℕ) (f : RequestInFlight) → flight_in fs n ≡ Some f → (i : ℕ) × (i < length fs) × ((d : RequestInFlight) → get_or fs i d ≡ f)
 found_flight [] n f h = absurd (none-some f h)
 found_flight (g ∷ gs) n f h = elim (with_some (flight_in gs) g.id g n f h) [
@@ -55,7 +55,7 @@ found_flight (g ∷ gs) n f h = elim (with_some (flight_in gs) g.id g n f h) [
   | inr (ne, was) ↦ let it = found_flight gs n f was in (suc it.0, omega (arith, it.1), it.2)
 ]
 
--- the request at an index where an id leads
+-- a request at an index is found under its id
 pub alive_at : (fs : List RequestInFlight) (i n : ℕ) → i < length fs → slice_get fs i ≡ flight_in fs n → (f : RequestInFlight) × (flight_in fs n ≡ Some f) × ((d : RequestInFlight) → get_or fs i d ≡ f) × (f.id ≡ n)
 alive_at [] i n within found = absurd (omega arith)
 alive_at (g ∷ gs) i n within found =
@@ -88,7 +88,7 @@ flight_in-remove (f ∷ fs) (suc i) d apart within =
     let ne : f.id ≡ (get_or fs i d).id → ⊥ = λ e. flight_in_some fs i d (omega arith) (subst (λ k. flight_in fs k ≡ None) e (first_apart f fs apart)) in
     ap (λ (at : RequestsInFlight). with_flight at f.id f) (flight_in-remove fs i d (rest_apart f fs apart) (omega arith)) ∙ without_swap (flight_in fs) f.id (get_or fs i d).id f ne
 
--- the ids stay apart
+-- the ids stay distinct
 pub HaveOwnIds-push : (fs : List RequestInFlight) (g : RequestInFlight) → HaveOwnIds fs → flight_in fs g.id ≡ None → HaveOwnIds (fs ++ g ∷ [])
 HaveOwnIds-push fs g apart fresh = all_pairs_push (λ (a b : RequestInFlight). a.id ≢ b.id) fs g apart (λ k d within e. flight_in_some fs k d within (ap (flight_in fs) e ∙ fresh))
 
@@ -116,7 +116,7 @@ cases_option : (o : Option RequestInFlight) → (o ≡ None) ⊎ ((f : RequestIn
 cases_option None = inl refl
 cases_option (Some f) = inr (f, refl)
 
--- as many ids as are taken, so many requests there are
+-- there are at least as many requests as ids that are used
 pub taken_bound : (n : ℕ) (fs : List RequestInFlight) → HaveOwnIds fs → ((k : ℕ) → k < n → flight_in fs k ≡ None → ⊥) → n ≤ length fs
 taken_bound zero fs apart h = omega arith
 taken_bound (suc n) fs apart h = elim (cases_option (flight_in fs n)) [

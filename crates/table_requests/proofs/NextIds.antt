@@ -1,4 +1,4 @@
--- Ids stay below a number over each step.
+-- Each step keeps all ids below a number.
 use Rattle.std.proofs.Common.{ℕ, ◌+◌, ◌<◌, ◌≤◌, ◌≡◌, ◌^◌, List, [], ◌∷◌, ◌++◌, None, sym, subst, inl, inr, arith}
 use Rattle.table_requests.specs.declared.data.RequestInFlight.{RequestInFlight}
 use Rattle.table_requests.specs.RequestMaps.{RequestsInFlight, with_flight, without_flight}

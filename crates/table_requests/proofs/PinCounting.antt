@@ -1,4 +1,4 @@
--- One pin more, and one less.
+-- Adding and removing one pin.
 use Rattle.std.proofs.Common.{ℕ, ◌+◌, ◌-◌, ◌<◌, ◌≤◌, ◌≡◌, ◌==◌, ◌^◌, if◌then◌else◌, cond, nat_eq, List, [], ◌∷◌, ◌++◌, take, length, get_or, refl, sym, ap, ◌∙◌, subst, inl, inr, arith}
 use Rattle.std.specs.List.{remove}
 use Rattle.std.proofs.lemmas.Bool.{cases_Bool, cond-false, cond-true, eq-eqb, eqb-true, lt-ltb}
@@ -10,11 +10,11 @@ use Rattle.table_files.proofs.Listing.{any_counted}
 use Rattle.table_requests.specs.PinCounts.{AreCounted, counted_in, times}
 use Rattle.table_requests.specs.declared.pin_counts.PinCounts.{PinCounts}
 
--- one for the number itself
+-- one for the number itself, and 0 for any other
 abbrev pub counts_as : ℕ → ℕ → ℕ
 counts_as number n = if nat_eq number n then 1 else 0
 
--- the totals may be written in another way
+-- equal totals
 pub same_totals : (counts : PinCounts) (f g : ℕ → ℕ) → ((n : ℕ) → f n ≡ g n) → AreCounted counts f → AreCounted counts g
 same_totals counts f g same counted = record {
   others = counted.others;
@@ -22,7 +22,7 @@ same_totals counts f g same counted = record {
   exact = λ n. counted.exact n ∙ same n;
 }
 
--- a pin is not counted by number
+-- a pin that is not counted by number
 pub loosened : (old new : PinCounts) (number : ℕ) (total : ℕ → ℕ) → new.by_number.items ≡ old.by_number.items → (new.loose + 1 < 2 ^ 64 → new.loose ≡ old.loose + 1) → AreCounted old total
     → AreCounted new (λ n. total n + counts_as number n)
 loosened old new number total same more counted =
@@ -36,7 +36,7 @@ loosened old new number total same more counted =
           omega (arith, was, pushed);
     }
 
--- a pin that is not counted goes
+-- a pin that was not counted is removed
 pub tightened : (old new : PinCounts) (number : ℕ) (total : ℕ → ℕ) → new.by_number.items ≡ old.by_number.items → counted_in old.by_number.items number ≡ 0 → 0 < total number
     → (new.loose + 1 < 2 ^ 64 → (old.loose + 1 < 2 ^ 64) × (new.loose ≡ old.loose - 1)) → AreCounted old total
     → AreCounted new (λ n. total n - counts_as number n)
@@ -57,7 +57,7 @@ tightened old new number total same none some less counted =
           omega (arith, was, gone);
     }
 
--- how often a number is among the first so many, with the next one
+-- how often a number is among the first ones and the next one
 pub times_more : (ns : List ℕ) (i d n : ℕ) → i < length ns → times n (take (i + 1) ns) ≡ times n (take i ns) + counts_as (get_or ns i d) n
 times_more ns i d n within = elim (cases_Bool (get_or ns i d == n)) [
   | inl hit ↦ count_by_more_yes (λ m. m == n) ns i d within hit ∙ ap (λ k. times n (take i ns) + k) (sym (cond-true (get_or ns i d == n) 1 0 hit))
@@ -67,7 +67,7 @@ times_more ns i d n within = elim (cases_Bool (get_or ns i d == n)) [
       omega (arith, same, none)
 ]
 
--- the next one is still to come
+-- the next one is still to be counted
 pub times_left : (ns : List ℕ) (i d : ℕ) → i < length ns → times (get_or ns i d) (take i ns) + 1 ≤ times (get_or ns i d) ns
 times_left ns i d within =
     let x = get_or ns i d in

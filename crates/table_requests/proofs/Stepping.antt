@@ -1,4 +1,4 @@
--- Each step on the requests in flight, over their list.
+-- Each step on the requests in flight, in terms of the list.
 use Rattle.std.proofs.Common.{ℕ, ◌<◌, ◌≡◌, ◌==◌, ◌||◌, true, false, List, [], ◌∷◌, ◌++◌, Option, Some, None, IfNone, IfSome, Vec, length, slice_get, get_or, set, refl, sym, ap, ◌∙◌, subst, arith}
 use Rattle.std.specs.List.{remove, list_any}
 use Rattle.std.proofs.lemmas.Option.{same_Some}
@@ -18,7 +18,7 @@ use Rattle.table_requests.proofs.Lookups.{alive_at, flight_in-push, flight_in-se
 use Rattle.table_requests.proofs.NextIds.{below_with, below_without}
 use Rattle.table_requests.proofs.Kept.{pinned_in-push, pinned_in-same, pinned_in-pinning, pinned_in-remove}
 
--- a file that is noted promises nothing
+-- noting a file promises nothing
 nodes_noted : (st : Stage) (handle : ℕ) → nodes_promised (with_opened st handle) ≡ nodes_promised st
 nodes_noted (Working work) handle = refl
 nodes_noted (Answered before opened) handle = refl
@@ -78,7 +78,7 @@ module _ (fs : List RequestInFlight) (i id : ℕ) (within : i < length fs) (foun
       let at : flight_in gs ≡ with_flight (flight_in fs) id y = ap flight_in (written x) ∙ changed y apart same in
       subst (λ (a : RequestsInFlight). AreBelow n a) (sym at) (below_with (flight_in fs) n id y all (all id x stood))
 
-  -- what is taken out, if one was answered
+  -- what is removed, if it was answered
   pub below_taken : (gs : List RequestInFlight) (o : Option EndedRequest) → HaveOwnIds fs → IfNone o (gs ≡ fs) → IfSome o (λ _. gs ≡ remove fs i) → (n : ℕ) → AreBelow n (flight_in fs) → AreBelow n (flight_in gs)
   below_taken gs None apart same is n all = subst (λ (hs : List RequestInFlight). AreBelow n (flight_in hs)) (sym same) all
   below_taken gs (Some ps) apart same is n all =
@@ -108,7 +108,7 @@ module _ (fs : List RequestInFlight) (i id : ℕ) (within : i < length fs) (foun
         files = omega (arith, q, ap files_promised (working x));
       })
 
-  -- what is ended, if it was worked on
+  -- what is ended, if it was in progress
   pub Answers_ended : (gs : List RequestInFlight) (room room' : ℕ) (o : Option Work) → HaveOwnIds fs → IfSome o (λ work. (d : RequestInFlight) → (get_or fs i d).stage ≡ Working work) → IfSome o (λ _. (d : RequestInFlight) → gs ≡ set fs i (answered (get_or fs i d)))
       → IfSome o (λ work. Answers (requests_of (record { flights = fs; room = room })) id work (requests_of (record { flights = gs; room = room' })))
   Answers_ended gs room room' None apart working written = written
@@ -182,14 +182,14 @@ module _ (fs : List RequestInFlight) (i id : ℕ) (within : i < length fs) (foun
         files = omega (arith, q, ap files_promised (stage x));
       })
 
-  -- the one under the id is at another stage
+  -- the request with that id is at the other stage
   pub none_working : ((d : RequestInFlight) → is_working (get_or fs i d).stage ≡ false) → HasNoneWorking (flight_in fs) id
   none_working stage f there = ap (λ (g : RequestInFlight). is_working g.stage) (same_Some f (alive_at fs i id within found).0 (sym there ∙ stood) ∙ sym (read f)) ∙ stage f
 
   pub none_answered : ((d : RequestInFlight) → is_working (get_or fs i d).stage ≡ true) → HasNoneAnswered (flight_in fs) id
   none_answered stage f there = ap (λ (g : RequestInFlight). is_working g.stage) (same_Some f (alive_at fs i id within found).0 (sym there ∙ stood) ∙ sym (read f)) ∙ stage f
 
-  -- what is taken out, if one was answered
+  -- what is removed, if it was answered
   pub Goes_taken : (gs : List RequestInFlight) (room room' : ℕ) (o : Option EndedRequest) → HaveOwnIds fs → IfSome o (λ ended. (d : RequestInFlight) → (get_or fs i d).stage ≡ Answered ended.before ended.opened) → IfSome o (λ ended. (d : RequestInFlight) → (get_or fs i d).pins ≡ ended.pins) → IfSome o (λ _. gs ≡ remove fs i)
       → IfSome o (λ ended. Goes (requests_of (record { flights = fs; room = room })) id ended (requests_of (record { flights = gs; room = room' })))
   Goes_taken gs room room' None apart stage pins is = is

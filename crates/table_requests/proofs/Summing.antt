@@ -1,4 +1,4 @@
--- What the requests in flight weigh together.
+-- Sums over the requests in flight.
 use Rattle.std.proofs.Common.{ℕ, List, sum_by}
 use Rattle.collections.specs.Sum.{IsSum}
 use Rattle.collections.proofs.Listing.{sum_listed}

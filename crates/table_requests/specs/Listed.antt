@@ -1,11 +1,11 @@
--- The requests in flight, one after another.
+-- The requests in flight as a list.
 use Rattle.std.specs.Prelude.{ℕ, ◌-◌, ◌<◌, ◌≡◌, ◌≢◌, ◌==◌, Bool, List, Some, Vec, AllPairs, find, sum_by, length, vec_len, vec_capacity}
 use Rattle.std.specs.List.{list_any}
 use Rattle.std.specs.declared.alloc.Global.{Global}
 use Rattle.table_requests.specs.declared.data.RequestInFlight.{RequestInFlight}
 use Rattle.table_requests.specs.RequestMaps.{RequestsInFlight, RequestMaps, files_promised, pins_number, nodes_promised, postings_promised}
 
--- requests, with room for more, which takes no memory
+-- requests, with room for more without allocating
 pub record InFlight : Type 0 where
   pub flights : List RequestInFlight
   pub room : ℕ
@@ -13,15 +13,15 @@ pub record InFlight : Type 0 where
 abbrev pub in_flight : Vec RequestInFlight Global → InFlight
 in_flight fs = record { flights = fs.items; room = vec_capacity fs - vec_len fs }
 
--- each by its id
+-- the requests by their ids
 abbrev pub flight_in : List RequestInFlight → RequestsInFlight
 flight_in fs id = find (λ (f : RequestInFlight). f.id == id) fs
 
--- whether one of them pins the number
+-- whether some request pins the number
 abbrev pub pinned_in : List RequestInFlight → ℕ → Bool
 pinned_in fs n = list_any (λ (f : RequestInFlight). pins_number f n) fs
 
--- what is promised to all of them together
+-- the sum of what all requests were promised
 abbrev pub nodes_in : List RequestInFlight → ℕ
 nodes_in fs = sum_by (λ (f : RequestInFlight). nodes_promised f.stage) fs
 
@@ -31,7 +31,7 @@ postings_in fs = sum_by (λ (f : RequestInFlight). postings_promised f.stage) fs
 abbrev pub files_in : List RequestInFlight → ℕ
 files_in fs = sum_by (λ (f : RequestInFlight). files_promised f.stage) fs
 
--- all of them by their ids, with their pins and totals
+-- all requests by their ids, with their pins and totals
 unfoldable pub requests_of : InFlight → RequestMaps
 requests_of all = record {
   at = flight_in all.flights;

@@ -11,13 +11,13 @@ times n ns = count_by (λ m. m == n) ns
 abbrev pub pins_in : List RequestInFlight → ℕ → ℕ
 pins_in fs n = sum_by (λ (f : RequestInFlight). times n f.pins.numbers) fs
 
--- how often the number is counted by the list, which has it as an index: not at all past the end
+-- the count of the number in the list, or 0 past its end
 abbrev pub counted_in : List ℕ → ℕ → ℕ
 counted_in counts n = slice_index counts n
 
--- each number is pinned as often as it is counted, and loose
+-- the pins of each number are those that are counted and those that are loose
 pub record AreCounted (counts : PinCounts) (total : ℕ → ℕ) : Type 0 where
-  -- the pins that are not counted by number
+  -- the loose pins
   pub others : List ℕ
   pub known : counts.loose + 1 < 2 ^ 64 → length others ≡ counts.loose
   pub exact : (n : ℕ) → counted_in counts.by_number.items n + times n others ≡ total n

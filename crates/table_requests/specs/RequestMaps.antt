@@ -1,4 +1,4 @@
--- The requests in flight, as contracts see them: by their ids.
+-- The requests in flight as contracts see them: by their ids.
 use Rattle.std.specs.Prelude.{ℕ, ◌+◌, ◌-◌, ◌≡◌, ◌==◌, ◌||◌, ◌↔◌, Bool, true, false, if◌then◌else◌, List, [], ◌∷◌, ◌++◌, Option, Some, None, Contains, drop, length, slice_get}
 use Rattle.std.specs.List.{list_any}
 use Rattle.paths.specs.Prefixes.{Names}
@@ -15,11 +15,11 @@ use Rattle.table_requests.specs.declared.data.Work.{Work}
 abbrev pub RequestsInFlight : Type 0
 RequestsInFlight = ℕ → Option RequestInFlight
 
--- the same requests, but that the id leads to f
+-- the same requests, except that the id leads to f
 abbrev pub with_flight : RequestsInFlight → ℕ → RequestInFlight → RequestsInFlight
 with_flight at id f = λ k. if id == k then Some f else at k
 
--- the same requests, but that the id leads to none
+-- the same requests, except that the id leads to none
 abbrev pub without_flight : RequestsInFlight → ℕ → RequestsInFlight
 without_flight at id = λ k. if id == k then None else at k
 
@@ -31,7 +31,7 @@ abbrev pub is_working : Stage → Bool
 is_working (Working work) = true
 is_working (Answered before opened) = false
 
--- the nodes, postings and open files that are promised
+-- the nodes, postings and open files that were promised
 abbrev pub nodes_promised : Stage → ℕ
 nodes_promised (Working work) = work.promise.nodes
 nodes_promised (Answered before opened) = 0
@@ -44,7 +44,8 @@ abbrev pub files_promised : Stage → ℕ
 files_promised (Working work) = work.promise.files
 files_promised (Answered before opened) = 0
 
--- the most postings that the next call on a request makes: those that are promised to its work, or one back for each number that it gave
+-- the most postings that the next call on a request makes: those promised to its work, or one give-back for each number
+-- that it gave
 abbrev pub most_posted : Stage → List ℕ → ℕ
 most_posted (Working work) pins = work.promise.postings
 most_posted (Answered before opened) pins = length (drop before pins)
@@ -53,17 +54,17 @@ abbrev pub most_posted_by : Option RequestInFlight → ℕ
 most_posted_by None = 0
 most_posted_by (Some f) = most_posted f.stage f.pins.numbers
 
--- the number that a request pinned at that place
+-- the number at that index of the request's pins
 abbrev pub pinned_at : Option RequestInFlight → ℕ → Option ℕ
 pinned_at None place = None
 pinned_at (Some f) place = slice_get f.pins.numbers place
 
--- what the request holds while it is worked on conflicts with these names
+-- what the request holds, if it is in progress, conflicts with these names
 abbrev pub IsInTheWay : Stage → Held → Type 0
 IsInTheWay (Working work) wanted = Conflict work.held wanted
 IsInTheWay (Answered before opened) wanted = ⊥
 
--- whether the request is worked on and has the path among these names
+-- whether the request is in progress and holds the path shared, or exclusively
 abbrev pub has_shared : Stage → Names → Bool
 has_shared (Working work) path = is_among work.held.shared path
 has_shared (Answered before opened) path = false
@@ -72,19 +73,19 @@ abbrev pub has_exclusive : Stage → Names → Bool
 has_exclusive (Working work) path = is_among work.held.exclusive path
 has_exclusive (Answered before opened) path = false
 
--- some request that is worked on holds a name that is in the way of these
+-- some request in progress holds a name that conflicts with these
 pub record HoldsUp (at : RequestsInFlight) (wanted : Held) : Type 0 where
   pub id : ℕ
   pub flight : RequestInFlight
   pub here : at id ≡ Some flight
   pub conflict : IsInTheWay flight.stage wanted
 
--- the request is worked on, and holds the path for itself
+-- the request is in progress, and holds the path exclusively
 abbrev pub HoldsExclusively : Stage → Names → Type 0
 HoldsExclusively (Working work) path = Contains work.held.exclusive path
 HoldsExclusively (Answered before opened) path = ⊥
 
--- some request that is worked on holds the path for itself
+-- some request in progress holds the path exclusively
 pub record HasExclusiveHolder (at : RequestsInFlight) (path : Names) : Type 0 where
   pub id : ℕ
   pub flight : RequestInFlight
@@ -93,20 +94,20 @@ pub record HasExclusiveHolder (at : RequestsInFlight) (path : Names) : Type 0 wh
 
 -- all requests in flight
 pub record RequestMaps : Type 0 where
-  -- each by its id
+  -- the requests by their ids
   pub at : RequestsInFlight
-  -- whether one of them pins the number
+  -- whether some request pins the number
   pub pinned : ℕ → Bool
-  -- how many they are
+  -- how many there are
   pub many : ℕ
-  -- what is promised to all of them together
+  -- the sum of what all were promised
   pub nodes : ℕ
   pub postings : ℕ
   pub files : ℕ
   -- how many more there is room for
   pub room : ℕ
 
--- what always holds of them
+-- what always holds of the requests
 pub record AreLawfulRequests (all : RequestMaps) : Type 0 where
   -- each is found under its own id
   pub numbered : (id : ℕ) (f : RequestInFlight) → all.at id ≡ Some f → f.id ≡ id
@@ -120,15 +121,15 @@ pub record IsTallied (all : RequestMaps) : Type 0 where
   pub postings : IsSum all.at (λ f. postings_promised f.stage) all.postings
   pub files : IsSum all.at (λ f. files_promised f.stage) all.files
 
--- none is worked on under the id
+-- no request with that id is in progress
 abbrev pub HasNoneWorking : RequestsInFlight → ℕ → Type 0
 HasNoneWorking at id = (f : RequestInFlight) → at id ≡ Some f → is_working f.stage ≡ false
 
--- none under the id was answered
+-- no request with that id was answered
 abbrev pub HasNoneAnswered : RequestsInFlight → ℕ → Type 0
 HasNoneAnswered at id = (f : RequestInFlight) → at id ≡ Some f → is_working f.stage ≡ true
 
--- the same request, answered: it has given no node yet, and opened no file
+-- the same request, answered: so far it has given no node and opened no file
 abbrev pub answered : RequestInFlight → RequestInFlight
 answered f = record f { stage = Answered (length f.pins.numbers) None }
 
@@ -145,7 +146,7 @@ opening f handle = record f { stage = with_opened f.stage handle }
 abbrev pub pinning : RequestInFlight → ℕ → RequestInFlight
 pinning f n = record f { pins = record { numbers = f.pins.numbers ++ n ∷ []; room = f.pins.room - 1 } }
 
--- none is in flight
+-- no requests
 abbrev pub no_requests : RequestsInFlight
 no_requests id = None
 
@@ -158,7 +159,7 @@ pub record Adds (old : RequestMaps) (f : RequestInFlight) (new : RequestMaps) : 
   pub postings : new.postings ≡ old.postings + postings_promised f.stage
   pub files : new.files ≡ old.files + files_promised f.stage
 
--- the work on a request ends: it gives its work back, keeps its pins and is promised nothing more
+-- the work on a request ends: the work is returned, and the request keeps its pins and is promised nothing more
 pub record Answers (old : RequestMaps) (id : ℕ) (work : Work) (new : RequestMaps) : Type 0 where
   pub flight : RequestInFlight
   pub here : old.at id ≡ Some flight
@@ -188,7 +189,7 @@ pub record Notes (old : RequestMaps) (id : ℕ) (f : RequestInFlight) (handle : 
   pub postings : new.postings ≡ old.postings
   pub files : new.files ≡ old.files
 
--- an answered request goes, with its pins
+-- an answered request is removed, with its pins
 pub record Goes (old : RequestMaps) (id : ℕ) (ended : EndedRequest) (new : RequestMaps) : Type 0 where
   pub flight : RequestInFlight
   pub here : old.at id ≡ Some flight

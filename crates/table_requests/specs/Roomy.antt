@@ -1,4 +1,4 @@
--- Lists with room for more, which takes no memory.
+-- Lists with room for more, which needs no allocation.
 use Rattle.std.specs.Prelude.{ℕ, List, Option}
 use Rattle.table_requests.specs.declared.data.Given.{Given}
 

@@ -1,4 +1,4 @@
--- What always holds of the list of requests, with what is counted of it.
+-- The invariant of the list of requests, with what is counted of it.
 use Rattle.std.specs.Prelude.{◌+◌, ◌<◌, ◌≡◌, ◌^◌, ℕ, List}
 use Rattle.table_requests.specs.declared.data.RequestInFlight.{RequestInFlight}
 use Rattle.table_requests.specs.declared.data.Promise.{Promise}
@@ -8,7 +8,8 @@ use Rattle.table_requests.specs.HeldPaths.{AreHolders}
 use Rattle.table_requests.specs.Listed.{AreBelow, HaveOwnIds, files_in, flight_in, nodes_in, postings_in}
 use Rattle.table_requests.specs.PinCounts.{AreCounted, pins_in}
 
--- requests with their pins and the paths that they hold counted, with running totals, and with an id that comes after all of theirs, if one is known
+-- the requests, with counts of their pins and of the paths that they hold, with running totals, and with an id above
+-- all of theirs, if one is known
 pub record IsTotalled (fs : List RequestInFlight) (pinned : PinCounts) (paths : HeldPaths) (promised : Promise) (next : ℕ) : Type 0 where
   pub apart : HaveOwnIds fs
   pub counted : AreCounted pinned (pins_in fs)

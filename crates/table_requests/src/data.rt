@@ -18,10 +18,11 @@ pub struct Handle {
     pub need: Need,
 }
 
-/// What a request is begun with.
+/// What a request asks of the table when it begins.
 #[derive(Drop)]
 pub enum Want {
-    /// A node (GETATTR), and the open file that it is used by, if one is (READ, WRITE, FSYNC, SETATTR with a handle).
+    /// A node (GETATTR), and the open file through which it is used, if any (READ, WRITE, FSYNC, SETATTR with a
+    /// handle).
     Node {
         number: u64,
         handle: Option<Handle>,
@@ -31,23 +32,23 @@ pub enum Want {
         parent: u64,
         name: Name,
     },
-    /// A name to be removed, whatever stands there (UNLINK, RMDIR).
+    /// A name to be removed, whether or not it has a node (UNLINK, RMDIR).
     Remove {
         parent: u64,
         name: Name,
-        /// Whether a file that is open may be hidden instead.
+        /// Whether an open file may be hidden instead of being removed.
         may_hide: bool,
     },
-    /// A name to be moved to another, whatever stands at either (RENAME, RENAME2).
+    /// A name to be moved to another, whatever is at either (RENAME, RENAME2).
     Move {
         parent: u64,
         name: Name,
         new_parent: u64,
         new_name: Name,
-        /// Whether what stands at the other is kept: then no open file is hidden there.
+        /// Whether what is at the target is kept: then no open file there is hidden.
         keep: bool,
     },
-    /// Two names that change places, whatever stands at either (RENAME2).
+    /// Two names to be exchanged, whatever is at either (RENAME2).
     Exchange {
         parent: u64,
         name: Name,
@@ -64,7 +65,7 @@ pub enum Want {
         number: u64,
         access: Access,
     },
-    /// A file to be made and opened (CREATE).
+    /// A file to be created and opened (CREATE).
     Create {
         parent: u64,
         name: Name,
@@ -77,38 +78,39 @@ pub enum Want {
     },
 }
 
-/// What a request's footprint takes from the table besides its want, as the table stood when the request began.
+/// What a request's footprint takes from the table besides its want. It is judged once, when the request begins.
 #[derive(Clone, Copy, Debug, PartialEq, Eq)]
 pub enum Case {
-    /// Nothing, or a node stands at the name for which an entry may be given.
+    /// Nothing more, or the name for which an entry may be given has a node.
     Plain,
-    /// No node stands at that name.
+    /// That name has no node.
     Absent,
-    /// The node whose file is closed has no path, or one that is longer than 4,096 bytes.
+    /// The node whose file is closed has no path, or one longer than 4,096 bytes.
     Pathless,
-    /// The node whose file is closed has a hidden mark and a path that is not longer, and no other file of it is open: it is removed.
+    /// The node whose file is closed has a hidden mark and a path that is not longer than that, and no other open file:
+    /// the file is removed.
     Last,
-    /// The node that stands at the name which goes has an open file, which may be hidden.
+    /// The node at the name to be removed or replaced has an open file, which may be hidden.
     Hiding {
         number: u64,
-        /// The counter of the first name that it may be hidden under.
+        /// The counter of the first hidden name that may be used.
         counter: u32,
     },
 }
 
-/// What a request may still add, kept free for it from its begin to its finish.
+/// What a request may still add. Room for it is kept free from its begin to its finish.
 #[derive(Clone, Copy, Debug, PartialEq, Eq)]
 pub struct Promise {
-    /// Nodes that it may bear.
+    /// Nodes that it may create.
     pub nodes: u64,
-    /// Postings that it may make, with those by which they are taken back.
+    /// Postings that it may make, including those that take them back.
     pub postings: u64,
-    /// Files that it may open, each under a handle of its own.
+    /// Files that it may open, each with a handle of its own.
     pub files: u64,
 }
 
 impl Promise {
-    /// Nothing is promised.
+    /// No promise.
     pub const NONE: Promise = Promise {
         nodes: 0,
         postings: 0,
@@ -119,16 +121,16 @@ impl Promise {
 /// A node that was given to the client.
 #[derive(Clone, Copy, Debug, PartialEq, Eq)]
 pub struct Given {
-    /// The inode number.
+    /// The node number.
     pub number: u64,
     pub generation: u64,
 }
 
-/// For each name of a request the node that was given for it, with room for more. All requests but pages have one name at most.
+/// The node that was given for each name of a request, with room for more. Only pages have more than one name.
 #[derive(Drop)]
 pub struct Givens {
     given: SmallVec<Option<Given>, 1>,
-    /// So many more take no memory.
+    /// How many more can be added without allocating.
     room: usize,
 }
 
@@ -144,7 +146,7 @@ impl Model for Givens {
 }
 
 impl Givens {
-    /// None, without memory.
+    /// No nodes. It does not allocate.
     pub fn new(alloc: Global) -> Givens
         ensures { result.items ≡ [] }
     {
@@ -154,7 +156,7 @@ impl Givens {
         }
     }
 
-    /// None yet, with room for so many.
+    /// No nodes yet, with room for `capacity`.
     pub fn with_capacity(alloc: Global, capacity: usize) -> Result<Givens, AllocError>
         ensures { IfOk result (λ g. g ≡ record { items = []; room = capacity }) }
     {
@@ -165,7 +167,7 @@ impl Givens {
         })
     }
 
-    /// Adds what is given for the next name, for which there is room.
+    /// Adds the node given for the next name, if any. There must be room for it.
     pub fn add(&mut self, given: Option<Given>)
         requires { 0 < self.old.room }
         ensures { self.new ≡ record { items = self.old.items ++ given ∷ []; room = self.old.room - 1 } }
@@ -174,14 +176,14 @@ impl Givens {
         self.room -= 1;
     }
 
-    /// What is given for each name.
+    /// The node given for each name, if any.
     pub fn as_slice(&self) -> &[Option<Given>]
         ensures { result.now ≡ self.now.items }
     {
         self.given.as_slice()
     }
 
-    /// How many nodes are given.
+    /// How many nodes were given.
     pub fn entries(&self) -> u64
         ensures { result ≡ count_by (λ g. is_some g) self.now.items }
     {
@@ -189,11 +191,12 @@ impl Givens {
     }
 }
 
-/// Numbers of nodes that a request pins, with room for more. Pages and requests that may hide a file alone pin more than four.
+/// Numbers of nodes that a request pins, with room for more. Only pages and requests that may hide a file pin more than
+/// four.
 #[derive(Drop)]
 pub struct Pins {
     numbers: SmallVec<u64, 4>,
-    /// So many more take no memory.
+    /// How many more can be added without allocating.
     room: usize,
 }
 
@@ -209,7 +212,7 @@ impl Model for Pins {
 }
 
 impl Pins {
-    /// None yet, with room for so many.
+    /// No numbers yet, with room for `capacity`.
     pub fn with_capacity(alloc: Global, capacity: usize) -> Result<Pins, AllocError>
         ensures { IfOk result (λ p. p ≡ record { numbers = []; room = capacity }) }
     {
@@ -244,32 +247,33 @@ impl Pins {
     }
 }
 
-/// What is still to do for a request.
+/// What is still to be done for a request.
 #[derive(Drop)]
 pub struct Work {
     pub want: Want,
     pub case: Case,
-    /// The name that the want may give to a node, once more: a node is put into the tree under two keys.
+    /// A copy of the name that the want may give to a node: a node is put into the tree under two keys.
     pub copy: Option<Name>,
-    /// The names that an open file may be hidden under.
+    /// The names under which an open file may be hidden.
     pub candidates: Names,
-    /// The names of its page, or those candidates, once more, for the same reason.
+    /// Copies of the names of its page, or of those candidates, for the same reason.
     pub copies: Names,
-    /// The names that others have to wait for.
+    /// The names for which other requests must wait.
     pub held: Held,
     pub promise: Promise,
-    /// Where its answer is put, so that the end of the work takes no memory.
+    /// The room for its answer, so that the end of the work does not allocate.
     pub answer: Givens,
 }
 
-/// How far a request has come.
+/// How far a request is.
 #[derive(Drop)]
 pub enum Stage {
-    /// It was begun, and its work goes on.
+    /// It was begun, and work on it is in progress.
     Working(Work),
-    /// Its work has ended, and its reply is not settled yet.
+    /// Work on it has ended, and its reply is not settled yet.
     Answered {
-        /// How many numbers it pinned before its end gave any: those after them are of the nodes that it gave, in order.
+        /// How many numbers it had pinned when its work ended. Those after them are of the nodes that it gave, in
+        /// order.
         before: usize,
         /// The handle of the file that it opened.
         opened: Option<u64>,
@@ -279,7 +283,7 @@ pub enum Stage {
 impl Stage {
     ghost use Rattle.table_requests.specs.RequestMaps.{files_promised, is_working, nodes_promised, postings_promised};
 
-    /// Whether the request is worked on.
+    /// Whether work on the request is in progress.
     pub fn is_working(&self) -> bool
         ensures { result ≡ is_working self.now }
     {
@@ -302,21 +306,21 @@ impl Stage {
 /// A request in flight.
 #[derive(Drop)]
 pub struct RequestInFlight {
-    /// Tells it from the others of its table.
+    /// Distinguishes it from the others of its table.
     pub id: u64,
-    /// The number that the client gave the request.
+    /// The number of the request at the client.
     pub unique: u64,
     pub stage: Stage,
-    /// The nodes that may not go before it is settled.
+    /// The nodes that are kept until it is settled.
     pub pins: Pins,
 }
 
-/// What an answered request leaves as it goes.
+/// What is left of an answered request when it is removed.
 #[derive(Drop)]
 pub struct EndedRequest {
     /// The nodes that it pinned.
     pub pins: Pins,
-    /// How many of them it pinned before its end gave any.
+    /// How many numbers it had pinned when its work ended.
     pub before: usize,
     /// The handle of the file that it opened.
     pub opened: Option<u64>,

@@ -1,8 +1,8 @@
-//! The paths that requests hold while they are worked on.
+//! The paths that requests hold while work on them is in progress.
 //!
-//! How many requests hold each path is counted, but for those of one request: of one that was added while all others were
-//! counted. So the paths of a request that is alone are not counted: nothing is looked up or hashed for it, and it takes no
-//! memory. Who asks about a path looks at the numbers, and then at the lists of that one request, which are short.
+//! The holders of each path are counted, except for one request: the one that was added while all others were counted.
+//! So the paths of a request that is alone are not counted: nothing is looked up or hashed for it, and it does not
+//! allocate. A query about a path looks at the numbers, and then at the lists of that one request, which are short.
 
 ghost use Rattle.std.specs.Prelude.{◌≡◌, ◌↔◌, ◌<◌, ◌+◌, ◌^◌, ◌++◌, ◌∷◌, [], ℕ, List, None, IsTrue, OnErr, OnOk, length};
 ghost use Rattle.std.specs.Option.{option_copied};
@@ -22,13 +22,13 @@ use std::hash::RandomState;
 /// How many requests hold each path.
 #[derive(Drop)]
 pub(crate) struct HeldPaths {
-    /// The two numbers of each path, over all requests that are worked on but one.
+    /// The two numbers of each path, over all requests in progress except one.
     pub(crate) numbers: HoldNumbers,
-    /// The id of that one, which is worked on, if there is such a one.
+    /// The id of that one, if there is one.
     pub(crate) uncounted: Option<u64>,
 }
 
-/// Nothing is held. Paths are hashed by that seed.
+/// Nothing is held. Paths are hashed with that seed.
 pub(crate) fn nothing_held(alloc: Global, seed: RandomState) -> HeldPaths
     ensures { AreHolders result [] }
 {
@@ -38,7 +38,7 @@ pub(crate) fn nothing_held(alloc: Global, seed: RandomState) -> HeldPaths
     }
 }
 
-/// What the request under the id holds, if there is such an id and it is worked on.
+/// What the request with that id holds, if there is an id and the request is in progress.
 fn held_under(flights: &[RequestInFlight], id: Option<u64>) -> Option<&Held>
     requires { HaveOwnIds flights.now }
     ensures { option_copied result ≡ held_under flights.now id }
@@ -50,7 +50,7 @@ fn held_under(flights: &[RequestInFlight], id: Option<u64>) -> Option<&Held>
     }
 }
 
-/// Whether a request that is worked on holds a name that is in the way of these.
+/// Whether a request in progress holds a name that conflicts with these.
 pub(crate) fn holds_up(held: &HeldPaths, flights: &[RequestInFlight], wanted: &Held) -> bool
     requires apart { HaveOwnIds flights.now }
     requires told { AreHolders held.now flights.now }
@@ -65,8 +65,8 @@ pub(crate) fn holds_up(held: &HeldPaths, flights: &[RequestInFlight], wanted: &H
     }
 }
 
-/// Whether a request that is counted holds the name under the parent's path for itself. Where nothing is held by such a one, as
-/// while the entries of a page are given and nobody else is at work, nothing is hashed.
+/// Whether a counted request holds the name under the parent exclusively. If no counted request holds anything, nothing
+/// is hashed: so it is while the entries of a page are given and no other request is in progress.
 fn is_counted_exclusive(numbers: &HoldNumbers, parent: &Path, name: &Name) -> bool
     requires { AreNumbers numbers.now }
     ensures { IsTrue result ↔ (0 < (holders_on numbers.now (parent.now ++ name.now ∷ [])).exclusive) }
@@ -77,7 +77,7 @@ fn is_counted_exclusive(numbers: &HoldNumbers, parent: &Path, name: &Name) -> bo
     numbers.is_held_exclusively(parent, name)
 }
 
-/// Whether a request that is worked on holds the name under the parent's path for itself.
+/// Whether a request in progress holds the name under the parent exclusively.
 pub(crate) fn holds_exclusively(
     held: &HeldPaths,
     flights: &[RequestInFlight],
@@ -97,7 +97,7 @@ pub(crate) fn holds_exclusively(
     }
 }
 
-/// How many of the requests that are worked on share the path.
+/// How many requests in progress share the path.
 pub(crate) fn shared_on(held: &HeldPaths, flights: &[RequestInFlight], path: &Path) -> u64
     requires apart { HaveOwnIds flights.now }
     requires told { AreHolders held.now flights.now }
@@ -110,7 +110,7 @@ pub(crate) fn shared_on(held: &HeldPaths, flights: &[RequestInFlight], path: &Pa
     }
 }
 
-/// How many of the requests that are worked on hold the path for themselves.
+/// How many requests in progress hold the path exclusively.
 pub(crate) fn exclusive_on(held: &HeldPaths, flights: &[RequestInFlight], path: &Path) -> u64
     requires apart { HaveOwnIds flights.now }
     requires told { AreHolders held.now flights.now }
@@ -123,8 +123,8 @@ pub(crate) fn exclusive_on(held: &HeldPaths, flights: &[RequestInFlight], path: 
     }
 }
 
-/// One request more holds its paths, if it is worked on. Where all others are counted it is not, and only its id is noted. Want of memory for the numbers of
-/// its paths is the only error: then each path has as many holders as before.
+/// Adds the request as a holder of its paths, if it is in progress. If all others are counted, only its id is noted.
+/// Out of memory is the only error; then each path has as many holders as before.
 pub(crate) fn add_holder(held: &mut HeldPaths, flight: &RequestInFlight) -> Result<(), AllocError>
     requires told { (fs : List RequestInFlight) × AreHolders held.old fs × (length fs + 1 < 2 ^ 64) }
     ensures added { OnOk result ((fs : List RequestInFlight) → flight_in fs flight.now.id ≡ None → AreHolders held.old fs → AreHolders held.new (fs ++ flight.now ∷ [])) }
@@ -133,6 +133,8 @@ pub(crate) fn add_holder(held: &mut HeldPaths, flight: &RequestInFlight) -> Resu
     let Stage::Working(work) = &flight.stage else {
         return Ok(());
     };
+    // It stays uncounted when others come: counting it later would cost more, and another request's begin could fail
+    // for it.
     if held.uncounted.is_none() {
         held.uncounted = Some(flight.id);
         return Ok(());
@@ -140,7 +142,8 @@ pub(crate) fn add_holder(held: &mut HeldPaths, flight: &RequestInFlight) -> Resu
     held.numbers.add(&work.held)
 }
 
-/// The request under the id is worked on no longer, and held this. Of the one that is not counted no number is lowered. It takes no memory.
+/// Removes the request with that id, which held this and is no longer in progress. If it is the uncounted one, no
+/// number is lowered. It does not allocate.
 pub(crate) fn drop_holder(held: &mut HeldPaths, id: u64, lost: &Held)
     requires loses { (fs : List RequestInFlight) × (gs : List RequestInFlight) × AreHolders held.old fs × LoseHolder fs id lost.now gs }
     ensures dropped { (fs gs : List RequestInFlight) → AreHolders held.old fs → LoseHolder fs id lost.now gs → AreHolders held.new gs }

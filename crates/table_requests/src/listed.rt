@@ -1,4 +1,4 @@
-//! The requests in flight as a list of them, each step on its own.
+//! The steps on the requests in flight, as a list.
 
 ghost use Rattle.std.specs.Prelude.{true, false, ◌≡◌, nat_eq, if◌then◌else◌, ◌<◌, ◌≤◌, ◌+◌, ◌^◌, ℕ, None, Some, IfNone, IfSome, length, slice_get, slice_set, slice_index_or, vec_len, vec_capacity};
 ghost use Rattle.std.specs.List.{remove};
@@ -12,8 +12,8 @@ ghost use Rattle.table_requests.specs.PinCounts.{pins_in, times};
 use crate::data::{EndedRequest, RequestInFlight, Stage, Work};
 use std::mem;
 
-/// The place of the request in the list. Where ids rise, as they do where each is the next one, that takes as many steps
-/// as the number of requests has binary digits.
+/// The index of the request in the list. Ids rise as long as each request gets the next one, and then it is found by
+/// binary search.
 pub(crate) fn index_of(flights: &[RequestInFlight], id: u64) -> Option<usize>
     requires { HaveOwnIds flights.now }
     ensures none { IfNone result (flight_in flights.now id ≡ None) }
@@ -27,7 +27,7 @@ pub(crate) fn index_of(flights: &[RequestInFlight], id: u64) -> Option<usize>
     walk_to(flights, id)
 }
 
-/// The place of the request in the list, in whatever order it stands.
+/// The index of the request in the list, whatever its order.
 fn walk_to(flights: &[RequestInFlight], id: u64) -> Option<usize>
     ensures none { IfNone result (flight_in flights.now id ≡ None) }
     ensures within { IfSome result (λ i. i < length flights.now) }
@@ -41,7 +41,7 @@ fn walk_to(flights: &[RequestInFlight], id: u64) -> Option<usize>
     None
 }
 
-/// Ends the work on the request at that place, if it is worked on, and gives it back.
+/// Ends the work on the request at that index, if it is in progress, and returns the work.
 fn end_work_at(flights: &mut Vec<RequestInFlight>, i: usize) -> Option<Work>
     requires { i < vec_len flights.old }
     ensures none { IfNone result ((d : RequestInFlight) → is_working (slice_index_or flights.old.items i d).stage ≡ false) }
@@ -65,7 +65,7 @@ fn end_work_at(flights: &mut Vec<RequestInFlight>, i: usize) -> Option<Work>
     }
 }
 
-/// Ends the work on the request, and gives it back.
+/// Ends the work on the request, and returns the work.
 pub fn end_work(flights: &mut Vec<RequestInFlight>, id: u64) -> Option<Work>
     requires { HaveOwnIds flights.old.items }
     ensures none { IfNone result (HasNoneWorking (flight_in flights.old.items) id) }
@@ -82,7 +82,7 @@ pub fn end_work(flights: &mut Vec<RequestInFlight>, id: u64) -> Option<Work>
     end_work_at(flights, i)
 }
 
-/// Pins one more number for the request at that place.
+/// Pins one more number for the request at that index.
 fn pin_at(flights: &mut Vec<RequestInFlight>, i: usize, number: u64)
     requires within { i < vec_len flights.old }
     requires room { (d : RequestInFlight) → 0 < (slice_index_or flights.old.items i d).pins.room }
@@ -112,7 +112,7 @@ pub fn pin_for(flights: &mut Vec<RequestInFlight>, id: u64, number: u64)
     }
 }
 
-/// Notes the file that the request at that place opened, if its work has ended.
+/// Notes the file that the request at that index opened, if its work has ended.
 fn note_at(flights: &mut Vec<RequestInFlight>, i: usize, handle: u64)
     requires { i < vec_len flights.old }
     ensures items { (d : RequestInFlight) → flights.new.items ≡ slice_set flights.old.items i (opening (slice_index_or flights.old.items i d) handle) }
@@ -144,7 +144,7 @@ pub fn note_for(flights: &mut Vec<RequestInFlight>, id: u64, handle: u64)
     }
 }
 
-/// Takes the request at that place out if it was answered, and gives what it leaves.
+/// Removes the request at that index if it was answered, and returns what is left of it.
 fn take_at(flights: &mut Vec<RequestInFlight>, i: usize) -> Option<EndedRequest>
     requires { i < vec_len flights.old }
     ensures none { IfNone result ((d : RequestInFlight) → is_working (slice_index_or flights.old.items i d).stage ≡ true) }
@@ -168,7 +168,7 @@ fn take_at(flights: &mut Vec<RequestInFlight>, i: usize) -> Option<EndedRequest>
     })
 }
 
-/// Takes an answered request out, and gives what it leaves.
+/// Removes an answered request, and returns what is left of it.
 pub fn take_answered(flights: &mut Vec<RequestInFlight>, id: u64) -> Option<EndedRequest>
     requires { HaveOwnIds flights.old.items }
     ensures none { IfNone result (HasNoneAnswered (flight_in flights.old.items) id) }
@@ -184,7 +184,8 @@ pub fn take_answered(flights: &mut Vec<RequestInFlight>, id: u64) -> Option<Ende
     take_at(flights, i)
 }
 
-/// The most postings that the next call on the request makes: those that are promised to its work, or one back for each number that it gave.
+/// The most postings that the next call on the request makes: those promised to its work, or one give-back for each
+/// number that it gave.
 pub fn most_posted(flights: &[RequestInFlight], id: u64) -> u64
     requires { HaveOwnIds flights.now }
     ensures { result ≡ most_posted_by (flight_in flights.now id) }
@@ -201,7 +202,7 @@ pub fn most_posted(flights: &[RequestInFlight], id: u64) -> u64
     }
 }
 
-/// The number that the request pinned at that place.
+/// The number at that index of the request's pins.
 pub fn pinned_at(flights: &[RequestInFlight], id: u64, place: usize) -> Option<u64>
     requires { HaveOwnIds flights.now }
     ensures { result ≡ pinned_at (flight_in flights.now id) place }
@@ -216,7 +217,7 @@ pub fn pinned_at(flights: &[RequestInFlight], id: u64, place: usize) -> Option<u
     }
 }
 
-/// A number above this one and above the id, but for the greatest number, which says that none is known.
+/// A number above both `next` and the id, or the greatest number, which says that no such number is known.
 pub fn next_after(next: u64, id: u64) -> u64
     ensures more { next ≤ result }
     ensures above { result + 1 < 2 ^ 64 → id < result }
@@ -224,7 +225,7 @@ pub fn next_after(next: u64, id: u64) -> u64
     next.max(id.saturating_add(1))
 }
 
-/// The least number that is the id of none.
+/// The least number that is not an id.
 pub fn least_free(flights: &[RequestInFlight]) -> u64
     requires apart { HaveOwnIds flights.now }
     requires short { length flights.now + 1 < 2 ^ 64 }

@@ -1,33 +1,36 @@
 //! How often each number is pinned by the requests in flight.
 //!
-//! Numbers are those of a slab: small, and used again. So the counts are a list, with the number as the index, and counting takes no look-up.
+//! Numbers are those of a slab: small, and reused. So the counts are a list indexed by number, and counting needs no
+//! look-up.
 //!
-//! A request brings its pins, and adds pins later, without a call that may fail. So where the list does not reach a number, its
-//! pin is not counted by number but is loose: as long as there are loose pins, who asks has to look at the requests.
+//! A request is added with its pins, and adds more later, in calls that must not fail. So if the list does not reach a
+//! number, its pin is loose, that is, not counted by number. As long as there are loose pins, a query must look at the
+//! requests themselves.
 
 ghost use Rattle.std.specs.Prelude.{true, false, ◌≡◌, ◌<◌, ◌≤◌, ◌+◌, ◌-◌, ℕ, nat_eq, if◌then◌else◌};
 ghost use Rattle.table_requests.specs.PinCounts.{counted_in, times, AreCounted};
 
 use std::alloc::Global;
 
-/// The list reaches so many numbers more than the greatest that was pinned: those may be born before memory may be taken again.
+/// The list has room for this many numbers above the greatest one pinned: those may be born before memory may be
+/// allocated again.
 const NUMBERS_AHEAD: usize = 1024;
 
-/// The list is made longer for numbers below this one alone, so that none asks for much more than 2 GiB.
+/// The list is made longer only for numbers below this one, so that it never asks for much more than 2 GiB.
 const MOST_NUMBERS: u64 = 1 << 28;
 
 /// How often each number is pinned.
 #[derive(Drop)]
 pub(crate) struct PinCounts {
-    /// How often each number is counted, with the number as the index.
+    /// How many pins of each number are counted, indexed by the number.
     pub(crate) by_number: Vec<u32>,
-    /// The greatest number that was pinned so far, of those that the list may be made longer for.
+    /// The greatest number pinned so far, of those for which the list may be made longer.
     pub(crate) greatest: u64,
-    /// How many pins are not counted by number. The greatest value says that it is not known how many.
+    /// How many pins are not counted by number. The greatest value means that the number is not known.
     pub(crate) loose: usize,
 }
 
-/// Nothing is pinned.
+/// No pins.
 pub(crate) fn no_pins(alloc: Global) -> PinCounts
     ensures { AreCounted result (λ n. 0) }
 {
@@ -38,7 +41,7 @@ pub(crate) fn no_pins(alloc: Global) -> PinCounts
     }
 }
 
-/// How often the number is counted.
+/// How many pins of the number are counted.
 pub(crate) fn count_of(counts: &PinCounts, number: u64) -> u32
     ensures { result ≡ counted_in counts.now.by_number.items number }
 {
@@ -48,7 +51,7 @@ pub(crate) fn count_of(counts: &PinCounts, number: u64) -> u32
     }
 }
 
-/// Counts the number once more if the list has a place for it. Whether it has one is the result. It takes no memory.
+/// Counts one more pin of the number, if the list has room for it, which the result says. It does not allocate.
 fn raise(counts: &mut PinCounts, number: u64) -> bool
     ensures raised { result ≡ true → (n : ℕ) → counted_in counts.new.by_number.items n ≡ counted_in counts.old.by_number.items n + (if nat_eq number n then 1 else 0) }
     ensures same { result ≡ false → counts.new.by_number.items ≡ counts.old.by_number.items }
@@ -63,7 +66,7 @@ fn raise(counts: &mut PinCounts, number: u64) -> bool
     }
 }
 
-/// Counts the number once less if it is counted. Whether it is counted is the result. It takes no memory.
+/// Counts one pin of the number less, if one is counted, which the result says. It does not allocate.
 fn lower(counts: &mut PinCounts, number: u64) -> bool
     ensures some { result ≡ true → 0 < counted_in counts.old.by_number.items number }
     ensures lowered { result ≡ true → (n : ℕ) → counted_in counts.new.by_number.items n ≡ counted_in counts.old.by_number.items n - (if nat_eq number n then 1 else 0) }
@@ -80,7 +83,7 @@ fn lower(counts: &mut PinCounts, number: u64) -> bool
     }
 }
 
-/// Notes that the list is to reach the number.
+/// Notes that the list should reach the number.
 fn note(counts: &mut PinCounts, number: u64)
     ensures same { counts.new.by_number.items ≡ counts.old.by_number.items }
     ensures loose { counts.new.loose ≡ counts.old.loose }
@@ -90,7 +93,7 @@ fn note(counts: &mut PinCounts, number: u64)
     }
 }
 
-/// The number is pinned once more. It takes no memory.
+/// Adds one pin of the number. It does not allocate.
 pub(crate) fn count(counts: &mut PinCounts, number: u64)
     ensures counted { (total : ℕ → ℕ) → AreCounted counts.old total → AreCounted counts.new (λ n. total n + (if nat_eq number n then 1 else 0)) }
 {
@@ -100,7 +103,7 @@ pub(crate) fn count(counts: &mut PinCounts, number: u64)
     }
 }
 
-/// The number is pinned once less. It takes no memory.
+/// Removes one pin of the number. It does not allocate.
 fn uncount(counts: &mut PinCounts, number: u64)
     requires some { (total : ℕ → ℕ) × AreCounted counts.old total × (0 < total number) }
     ensures counted { (total : ℕ → ℕ) → AreCounted counts.old total → 0 < total number → AreCounted counts.new (λ n. total n - (if nat_eq number n then 1 else 0)) }
@@ -113,7 +116,7 @@ fn uncount(counts: &mut PinCounts, number: u64)
     }
 }
 
-/// Each of the numbers is pinned once more. It takes no memory.
+/// Adds one pin of each of the numbers. It does not allocate.
 pub(crate) fn count_all(counts: &mut PinCounts, numbers: &[u64])
     ensures counted { (total : ℕ → ℕ) → AreCounted counts.old total → AreCounted counts.new (λ n. total n + times n numbers.now) }
 {
@@ -122,7 +125,7 @@ pub(crate) fn count_all(counts: &mut PinCounts, numbers: &[u64])
     }
 }
 
-/// Each of the numbers is pinned once less. It takes no memory.
+/// Removes one pin of each of the numbers. It does not allocate.
 pub(crate) fn uncount_all(counts: &mut PinCounts, numbers: &[u64])
     requires some { (total : ℕ → ℕ) × AreCounted counts.old total × ((n : ℕ) → times n numbers.now ≤ total n) }
     ensures counted { (total : ℕ → ℕ) → AreCounted counts.old total → ((n : ℕ) → times n numbers.now ≤ total n) → AreCounted counts.new (λ n. total n - times n numbers.now) }
@@ -132,8 +135,8 @@ pub(crate) fn uncount_all(counts: &mut PinCounts, numbers: &[u64])
     }
 }
 
-/// Makes the list reach the numbers that requests to come may pin, if there is memory. It becomes at least twice as long, so that this
-/// costs a constant for each number, and at most twice as long as it has to be.
+/// Makes the list reach the numbers that later requests may pin, if there is memory. Its length is at least doubled, so
+/// that this costs a constant per number, and it is at most twice as long as it has to be.
 pub(crate) fn make_room(counts: &mut PinCounts)
     ensures counted { (total : ℕ → ℕ) → AreCounted counts.old total → AreCounted counts.new total }
 {

@@ -1,4 +1,4 @@
-//! The requests in flight, with the totals of what is promised to them.
+//! The requests in flight, with the totals of what they were promised.
 
 ghost use Rattle.std.specs.Prelude.{true, false, ◌≡◌, ◌≢◌, ◌<◌, ◌≤◌, ◌+◌, ◌^◌, ◌++◌, ◌∷◌, [], ℕ, None, Some, IfNone, IfSome, IsOk, OnErr, OnOk, IsTrue, AllPairs, ◌↔◌, option_copied, count_by, length};
 ghost use Rattle.table_requests.specs.declared.data.RequestInFlight.{RequestInFlight};
@@ -20,15 +20,15 @@ use std::alloc::{AllocError, Global};
 use std::hash::RandomState;
 use std::marker::Model;
 
-/// The requests in flight, each under an id of its own.
+/// The requests in flight, each with an id of its own.
 #[derive(Drop)]
 pub struct RequestsInFlight {
     flights: Vec<RequestInFlight>,
     pinned: PinCounts,
-    /// How many of them hold each path.
+    /// How many requests hold each path.
     held: HeldPaths,
     promised: Promise,
-    /// Above all ids, or the greatest number if such a one is not known.
+    /// Above all ids, or the greatest number if no such number is known.
     next: u64,
 }
 
@@ -45,7 +45,7 @@ impl Model for RequestsInFlight {
 
 #[tactic(auto, using(crate::proofs::Kept::IsFlying_listed), unfolding(crate::specs::Listed::requests_of))]
 impl RequestsInFlight {
-    /// None in flight. The paths that they hold are hashed by that seed.
+    /// No requests. The paths that they hold are hashed with that seed.
     pub fn new(alloc: Global, seed: RandomState) -> RequestsInFlight
         ensures at { (requests_of result).at ≡ no_requests }
         ensures pinned { (requests_of result).pinned ≡ (λ _. false) }
@@ -65,7 +65,7 @@ impl RequestsInFlight {
         }
     }
 
-    /// How many are in flight.
+    /// How many requests are in flight.
     pub fn len(&self) -> usize
         ensures many { result ≡ (requests_of self.now).many }
         ensures law { AreLawfulRequests (requests_of self.now) }
@@ -73,15 +73,15 @@ impl RequestsInFlight {
         self.flights.len()
     }
 
-    /// The most postings that the next call on the request makes: those that are promised to its work, or one back for each node
-    /// that it gave.
+    /// The most postings that the next call on the request makes: those promised to its work, or one give-back for each
+    /// node that it gave.
     pub fn most_posted(&self, id: u64) -> u64
         ensures { result ≡ most_posted_by ((requests_of self.now).at id) }
     {
         most_posted(self.flights.as_slice(), id)
     }
 
-    /// What is promised to all of them together.
+    /// The sum of what all requests were promised.
     pub fn promised(&self) -> Promise
         ensures nodes { result.nodes ≡ (requests_of self.now).nodes }
         ensures postings { result.postings ≡ (requests_of self.now).postings }
@@ -92,7 +92,7 @@ impl RequestsInFlight {
         self.promised
     }
 
-    /// A number that is the id of none.
+    /// A number that is not an id.
     pub fn free_id(&self) -> u64
         ensures free { (requests_of self.now).at result ≡ None }
         ensures law { AreLawfulRequests (requests_of self.now) }
@@ -104,7 +104,7 @@ impl RequestsInFlight {
         }
     }
 
-    /// Whether one of them pins the number.
+    /// Whether some request pins the number.
     pub fn pins(&self, number: u64) -> bool
         ensures pinned { result ≡ (requests_of self.now).pinned number }
         ensures law { AreLawfulRequests (requests_of self.now) }
@@ -118,7 +118,7 @@ impl RequestsInFlight {
         self.flights.iter().any(|f| f.pins.contains(number))
     }
 
-    /// Whether one that is worked on holds a name that is in the way of these.
+    /// Whether a request in progress holds a name that conflicts with these.
     pub fn holds_up(&self, wanted: &Held) -> bool
         ensures held { IsTrue result ↔ HoldsUp (requests_of self.now).at wanted.now }
         ensures law { AreLawfulRequests (requests_of self.now) }
@@ -126,7 +126,7 @@ impl RequestsInFlight {
         holds_up(&self.held, self.flights.as_slice(), wanted)
     }
 
-    /// Whether one that is worked on holds the name under the parent's path for itself.
+    /// Whether a request in progress holds the name under the parent exclusively.
     pub fn holds_exclusively(&self, parent: &Path, name: &Name) -> bool
         ensures owned { IsTrue result ↔ HasExclusiveHolder (requests_of self.now).at (parent.now ++ name.now ∷ []) }
         ensures law { AreLawfulRequests (requests_of self.now) }
@@ -134,21 +134,21 @@ impl RequestsInFlight {
         holds_exclusively(&self.held, self.flights.as_slice(), parent, name)
     }
 
-    /// How many of those that are worked on share the path.
+    /// How many requests in progress share the path.
     pub fn shared_on(&self, path: &Path) -> u64
         ensures { result ≡ count_by (λ (f : RequestInFlight). has_shared f.stage path.now) self.now.flights }
     {
         shared_on(&self.held, self.flights.as_slice(), path)
     }
 
-    /// How many of those that are worked on hold the path for themselves.
+    /// How many requests in progress hold the path exclusively.
     pub fn exclusive_on(&self, path: &Path) -> u64
         ensures { result ≡ count_by (λ (f : RequestInFlight). has_exclusive f.stage path.now) self.now.flights }
     {
         exclusive_on(&self.held, self.flights.as_slice(), path)
     }
 
-    /// Makes room for one more.
+    /// Makes room for one more request.
     pub fn reserve(&mut self) -> Result<(), AllocError>
         ensures ok { OnOk result (0 < (requests_of self.new).room) }
         ensures had_room { 0 < (requests_of self.old).room → IsOk result }
@@ -160,7 +160,7 @@ impl RequestsInFlight {
         self.flights.reserve(1)
     }
 
-    /// Adds a request, for which there is room. Want of memory for the paths that it holds is the only error: then none is added.
+    /// Adds a request, for which there is room. Out of memory for its paths is the only error; then it is not added.
     pub fn add(&mut self, flight: RequestInFlight) -> Result<(), AllocError>
         requires room { 0 < (requests_of self.old).room }
         requires fresh { (requests_of self.old).at flight.id ≡ None }
@@ -184,8 +184,8 @@ impl RequestsInFlight {
         Ok(())
     }
 
-    /// Ends the work on the request and gives it back, if one is worked on under the id.
-    /// The request keeps its pins and is promised nothing more.
+    /// Ends the work on the request with that id and returns the work, if the request is in progress. The request keeps
+    /// its pins and is promised nothing more.
     pub fn answer(&mut self, id: u64) -> Option<Work>
         ensures none { IfNone result (HasNoneWorking (requests_of self.old).at id) }
         ensures same { IfNone result (self.new ≡ self.old) }
@@ -212,14 +212,14 @@ impl RequestsInFlight {
         count(&mut self.pinned, number);
     }
 
-    /// The number that the request pinned at that place, if it is in flight and pinned so many.
+    /// The number at that index of the request's pins, if the request is in flight and has that many.
     pub fn pinned_at(&self, id: u64, place: usize) -> Option<u64>
         ensures { result ≡ pinned_at ((requests_of self.now).at id) place }
     {
         pinned_at(self.flights.as_slice(), id, place)
     }
 
-    /// Notes the file that the end of the request's work opened.
+    /// Notes the file that was opened at the end of the request's work.
     pub fn note_file(&mut self, id: u64, handle: u64)
         requires { (f : RequestInFlight) × ((requests_of self.old).at id ≡ Some f) }
         ensures notes { (f : RequestInFlight) → (requests_of self.old).at id ≡ Some f → Notes (requests_of self.old) id f handle (requests_of self.new) }
@@ -229,7 +229,7 @@ impl RequestsInFlight {
         note_for(&mut self.flights, id, handle);
     }
 
-    /// Takes the request out and gives what it leaves, if one was answered under the id.
+    /// Removes the request with that id and returns what is left of it, if it was answered.
     pub fn take(&mut self, id: u64) -> Option<EndedRequest>
         ensures none { IfNone result (HasNoneAnswered (requests_of self.old).at id) }
         ensures same { IfNone result (self.new ≡ self.old) }
@@ -242,7 +242,7 @@ impl RequestsInFlight {
         Some(ended)
     }
 
-    /// All of them, in some order.
+    /// All requests, in some order.
     pub fn as_slice(&self) -> &[RequestInFlight]
         ensures at { flight_in result.now ≡ (requests_of self.now).at }
         ensures pinned { pinned_in result.now ≡ (requests_of self.now).pinned }

@@ -1,4 +1,4 @@
--- A node all of whose lookups are given back goes, if nothing else keeps it: no request on it goes on after.
+-- A node whose lookups are all forgotten is dropped, if nothing else keeps it alive: no later request on it begins.
 use Rattle.std.proofs.Common.{ℕ, ◌-◌, ◌<◌, ◌≤◌, ◌≡◌, ◌≢◌, Bool, false, [], ◌∷◌, Contains, Some, min, refl, sym, ap, ◌∙◌, subst, inl, inr, arith}
 use Rattle.std.proofs.lemmas.Bool.{cases_eq, true≢false}
 use Rattle.std.proofs.lemmas.Option.{same_Some}
@@ -15,14 +15,14 @@ use Rattle.tree.proofs.LookupLemmas.{with_same, with_some}
 use Rattle.tree.specs.declared.nodes.Node.{Node}
 use Rattle.tree.specs.Places.{HasChild, IsAlive, Leads, Lookup, Reaches, with_node}
 
--- without a count, a mark, a pin, an open file and a child there is no reason
+-- without a count, a mark, a pin, an open file and a child a node has no reason
 no_reason : (at : Lookup) (flights : RequestsInFlight) (files : Files) (kept : ℕ → Bool) → AreKept flights files kept → (n : ℕ) (z : Node) → z.count ≡ 0 → z.hidden ≡ false → (IsPinned flights n → ⊥) → (IsOpen files n → ⊥) → (HasChild at n → ⊥) → HasReason at kept n z → ⊥
 no_reason at flights files kept keeps n z count hidden pinned opened child (inl counted) = omega (arith, counted, count)
 no_reason at flights files kept keeps n z count hidden pinned opened child (inr (inl marked)) = true≢false (sym marked ∙ hidden)
 no_reason at flights files kept keeps n z count hidden pinned opened child (inr (inr (inl is))) = elim ((keeps n).0 is) [ inl pin ↦ pinned pin | inr file ↦ opened file ]
 no_reason at flights files kept keeps n z count hidden pinned opened child (inr (inr (inr has))) = child has
 
--- a number other than the root's that a way leads from is that of a living node
+-- a number other than the root's from which a way leads has a living node
 stands : (at : Lookup) (n : ℕ) (names : Path) → n ≢ 1 → Reaches at 1 n names → IsAlive at n
 stands at n [] ne root = absurd (ne root)
 stands at n (name ∷ up) ne (p, named, rest) = (named.0, named.1)
@@ -33,7 +33,7 @@ child_before at new n x y stood place kept (c, name, (z, here, named)) = elim (w
   | inr (ne, was) ↦ (c, name, (z, was, named))
 ]
 
--- each node but the root has a reason, one of them its count alone
+-- each node except the root has a reason, and one of them has only its count
 module _ (old mid : World) (number n amount : ℕ) (x : Node) (kept : ℕ → Bool) (keeps : AreKept old.flights old.files kept) (reasons : HaveReasons old.at kept) (only : IsKeptByCount old number x) (all : x.count ≤ n) (forgets : Forgets old number n amount mid) where
   took : amount ≡ x.count
   took = let least : amount ≡ min n x.count = forgets.smaller x only.here in omega (arith, least, all)
@@ -62,7 +62,7 @@ module _ (old mid : World) (number n amount : ℕ) (x : Node) (kept : ℕ → Bo
       (λ child. only.childless (child_before old.at mid.at number x less only.here refl takes.sweeps.swept.kept child))
       (takes.sweeps.reasons number y here only.not_root)
 
--- a period that ends before it leaves all nodes
+-- a period that ends first does not change the nodes
 module _ (old mid : World) (number n amount : ℕ) (x : Node) (lawful : IsLawfulWorld old) (only : IsKeptByCount old number x) (all : x.count ≤ n) (forgets : ForgetsAnew old number n amount mid) where
   gone_anew : IsAlive mid.at number → ⊥
   gone_anew =

@@ -1,4 +1,4 @@
--- What any call leaves of the tickets that are pending, and what all calls of a run leave together.
+-- What any call does to the pending tickets, and what all calls of a run do together.
 use Rattle.std.proofs.Common.{ℕ, ◌+◌, ◌<◌, ◌≡◌, ◌≢◌, ◌==◌, ◌⊎◌, suc, Bool, List, [], ◌∷◌, ◌++◌, append_assoc, Option, Some, None, All, AllPairs, Contains, length, drop, take, get_or, refl, sym, ap, ◌∙◌, subst, inl, inr, arith}
 use Rattle.std.specs.List.{remove}
 use Rattle.std.proofs.lemmas.Bool.{cases_Bool, cases_eq, cases_lt, cond-false, cond-true, eq-eqb, ne_eqb}
@@ -38,7 +38,7 @@ use Rattle.table_runs.specs.Runs.{ChangesNothing, IsCurrent, IsCurrentAt, IsStep
 
 -- ---- one ticket
 
--- a request is one of its want, and holds the same paths before and after: so the paths of its locations are the same
+-- a request for the same want holds the same paths before and after, so the paths of its locations are the same
 module _ (old new : Lookup) (tree : IsTree old) (d : Footprint) (held : Held) (was : Holds old d held) (is : Holds new d held) where
   given_path : (n : ℕ) → Contains d.given n → (q : Names) → IsPathOf old n q → IsPathOf new n q
   given_path n given q leads =
@@ -65,7 +65,7 @@ module _ (old new : Lookup) (tree : IsTree old) (d : Footprint) (held : Held) (w
     last = it.last;
   }
 
--- the request under the id is worked on as before
+-- the request with that id is in progress as before
 abbrev pub StaysAtWork : World → World → ℕ → Type 0
 StaysAtWork old new id = (f : RequestInFlight) (work : Work) → IsAtWork old.flights id f work → new.flights id ≡ Some f
 
@@ -83,7 +83,7 @@ current_kept old new s was is stays c =
       ticket = ticket_kept old.at new.at was.law.tree c.work.footprint c.work.held before.holds after.holds footprint s.ticket c.ticket;
     }
 
--- ---- requests that a step leaves at work
+-- ---- requests that are still in progress after a step
 
 entry_same : (at : RequestsInFlight) (id : ℕ) (x : Option RequestInFlight) → with_entry at id x id ≡ x
 entry_same at id x = cond-true (id == id) x (at id) (eq-eqb id id refl)
@@ -147,7 +147,7 @@ forgets_stays old number n amount new h k f work it = elim (cases_eq amount 0) [
   ]
 ]
 
--- a period that ends before it touches none of them
+-- a period that ends first affects none of them
 after_renewed : (old mid new : World) → ((id : ℕ) → mid.flights id ≡ old.flights id) → (k : ℕ) → StaysAtWork mid new k → StaysAtWork old new k
 after_renewed old mid new same k stays f work it = stays f work (record { here = same k ∙ it.here; working = it.working })
 
@@ -165,7 +165,7 @@ closes_stays old fewer new closes k f work it = ap (λ (w : World). w.flights k)
 
 -- ---- one call
 
--- the ticket of the id, if there is one, is current
+-- the ticket with that id, if there is one, is current
 abbrev pub IsIfBorne : World → ℕ → Started → Type 0
 IsIfBorne w id s = s.ticket.id ≡ id → IsCurrent w s
 
@@ -204,11 +204,11 @@ current_begin old hand unique want new hand' was is puts id current =
       current = All-push (IsIfBorne new id) hand.tickets s (all_kept old new id hand.tickets was is stays current.current) (λ borne. one);
     })
 
--- one that is left, when another is spent
+-- one that remains when another is used up
 abbrev pub IsLeft : World → ℕ → Started → Started → Type 0
 IsLeft w id s c = c.ticket.id ≡ id → IsCurrent w c × (s.ticket.id ≢ id)
 
--- the others that are pending, when one is spent
+-- the others that are pending when one is used up
 others : (w : World) (id : ℕ) (ss : List Started) (place : ℕ) (s : Started) → place < length ss → get_or ss place s ≡ s → AllPairs (NotBoth id) ss → All (IsIfBorne w id) ss → All (IsLeft w id s) (remove ss place)
 others w id ss place s inside here once current = All-from_get_or (IsLeft w id s) (remove ss place) s (λ i within. elim (cases_lt i place) [
   | inl before ↦
@@ -238,7 +238,7 @@ same_tickets old new hand hand' was is stays same id current = record {
   current = subst (λ ss. All (IsIfBorne new id) ss) (sym same) (all_kept old new id hand.tickets was is (stays id) current.current);
 }
 
--- after any call the one ticket of an id is still current, if it was, or if it was put by the call
+-- after any call the only ticket with an id is still current, if it was, or if the call added it
 pub current_step : (old : World) (hand : Outstanding) (c : TableCall) (t : CallResult) (new : World) (hand' : Outstanding) → IsLawfulWorld old → IsLawfulWorld new → IsStep old hand c t new hand' → (id : ℕ) → IsCurrentAt old hand id → IsCurrentAt new hand' id
 current_step old hand (call.Begin unique want) told.Begun new hand' was is puts id current = current_begin old hand unique want new hand' was is puts id current
 current_step old hand (call.Begin unique want) told.Busy new hand' was is (begins, same) id current = current_same old new hand hand' begins.begins.2 same id current
@@ -298,20 +298,20 @@ pub runs_same : (old : World) (hand : Outstanding) (cs : List TableCall) (ts : L
 runs_same old hand cs ts mid between new hand' runs same =
     subst (λ w. Runs old hand cs ts w hand') (sym same.world) (subst (λ h. Runs old hand cs ts mid h) (sym same.hand_is) runs)
 
--- each call told one thing
+-- each call has one result
 pub runs_length : (old : World) (hand : Outstanding) (cs : List TableCall) (ts : List CallResult) (new : World) (hand' : Outstanding) → Runs old hand cs ts new hand' → length cs ≡ length ts
 runs_length old hand [] [] new hand' runs = refl
 runs_length old hand [] (t ∷ ts) new hand' bad = absurd bad
 runs_length old hand (c ∷ cs) [] new hand' bad = absurd bad
 runs_length old hand (c ∷ cs) (t ∷ ts) new hand' runs = ap (λ n. suc n) (runs_length runs.0 runs.1 cs ts new hand' runs.4)
 
--- the calls that were made are the first of the list
+-- the calls that were made are a prefix of the list
 pub runs_first : (old : World) (hand : Outstanding) (cs : List TableCall) (ts : List CallResult) (new : World) (hand' : Outstanding) (calls rest : List TableCall) → calls ≡ cs ++ rest → Runs old hand cs ts new hand' → Runs old hand (take (length ts) calls) ts new hand'
 runs_first old hand cs ts new hand' calls rest is runs =
     let first : take (length ts) calls ≡ cs = ap (λ n. take n calls) (sym (runs_length old hand cs ts new hand' runs)) ∙ (ap (take (length cs)) is ∙ take-append_seam cs rest) in
     subst (λ xs. Runs old hand xs ts new hand') (sym first) runs
 
--- what is told besides comes last
+-- a further result comes last
 pub told_more : (o u v : List CallResult) (t : CallResult) → u ≡ o ++ drop (length o) u → v ≡ u ++ t ∷ [] → drop (length o) v ≡ drop (length o) u ++ t ∷ []
 told_more o u v t was is =
     let whole : v ≡ o ++ (drop (length o) u ++ t ∷ []) = is ∙ (ap (λ xs. xs ++ t ∷ []) was ∙ append_assoc o (drop (length o) u) (t ∷ [])) in
@@ -323,7 +323,7 @@ told_whole o u v t was is =
 
 -- ---- a run
 
--- what stands after the first calls of a run, with what they told
+-- the state after the first calls of a run, with their results
 pub record HasRun (old : World) (hand : Outstanding) (before : Part) (made : List TableCall) (ts : List CallResult) (new : World) (hand' : Outstanding) (after : Part) : Type 0 where
   pub runs : Runs old hand made ts new hand'
   pub current : (id : ℕ) → IsCurrentAt old hand id → IsCurrentAt new hand' id
@@ -346,7 +346,7 @@ run_more old hand before made ts mid between among c t new hand' after run step 
   gains = in_all_on old mid new before among after run.gains gains;
 }
 
--- a call that found no memory
+-- a call for which memory was refused
 pub run_refused : (old : World) (hand : Outstanding) (before : Part) (made : List TableCall) (ts : List CallResult) (mid : World) (between : Outstanding) (among : Part) (new : World) (hand' : Outstanding) (after : Part)
     → HasRun old hand before made ts mid between among → ChangesNothing mid between new hand' → GainsInAll mid among new after
     → HasRun old hand before made ts new hand' after

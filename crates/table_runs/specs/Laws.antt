@@ -1,4 +1,4 @@
--- What is proved of runs, whatever the table.
+-- What is proved about runs, for any table.
 use Rattle.std.specs.Prelude.{ℕ, ◌≡◌, ◌≢◌, ◌≤◌, false, [], ◌∷◌, Contains, Some}
 use Rattle.table_files.specs.Handles.{IsOpen}
 use Rattle.table_footprints.specs.Footprints.{footprint_of}
@@ -12,7 +12,7 @@ use Rattle.table_steps.specs.World.{IsLawfulWorld, IsPinned, World}
 use Rattle.tree.specs.Places.{HasChild}
 use Rattle.tree.specs.declared.nodes.Node.{Node}
 
--- nothing but its lookup count keeps the node
+-- only its lookup count keeps the node alive
 pub record IsKeptByCount (w : World) (number : ℕ) (x : Node) : Type 0 where
   pub here : w.at number ≡ Some x
   pub not_root : number ≢ 1
@@ -21,11 +21,11 @@ pub record IsKeptByCount (w : World) (number : ℕ) (x : Node) : Type 0 where
   pub closed : IsOpen w.files number → ⊥
   pub childless : HasChild w.at number → ⊥
 
--- the want names the node, whatever its case
+-- the want names the node, in any case
 abbrev pub Names : Want → ℕ → Type 0
 Names want number = (c : Case) → Contains (footprint_of want c).given number
 
--- where all lookups of a node are given back that nothing else keeps, no request on it goes on after
+-- if all lookups of a node are forgotten and nothing else keeps it alive, no later request on it begins
 abbrev pub AreForgottenGone : Type 0
 AreForgottenGone = (old new : World) (hand hand' : Outstanding) (number n amount unique : ℕ) (want : Want) (x : Node) → IsLawfulWorld old → IsKeptByCount old number x → x.count ≤ n → Names want number
     → Runs old hand (call.Forget number n ∷ call.Begin unique want ∷ []) (told.Forgot amount ∷ told.Begun ∷ []) new hand' → ⊥

@@ -1,4 +1,4 @@
--- Runs: lists of calls with what each told, and what a caller has in hand meanwhile.
+-- Runs: lists of calls with their results, and what a caller has pending meanwhile.
 use Rattle.std.specs.Prelude.{ℕ, ◌<◌, ◌≤◌, ◌≡◌, ◌≢◌, Bool, List, [], ◌∷◌, ◌++◌, length, All, AllPairs, slice_index_or}
 use Rattle.std.specs.List.{remove}
 use Rattle.table_requests.specs.declared.data.Want.{Want}
@@ -17,7 +17,8 @@ use Rattle.table_runs.specs.Outstanding.{Outstanding}
 
 -- ---- tickets
 
--- a request of that want is worked on under the ticket's id, and the ticket tells what its footprint says, its paths as the nodes stand
+-- a request for that want is in progress with the ticket's id, and the ticket has what its footprint says, with the
+-- current paths
 pub record IsCurrent (w : World) (s : Started) : Type 0 where
   pub flight : RequestInFlight
   pub work : Work
@@ -25,29 +26,29 @@ pub record IsCurrent (w : World) (s : Started) : Type 0 where
   pub want_is : work.want ≡ s.want
   pub ticket : IsTicket w.at work.footprint s.ticket
 
--- the tickets do not both bear the id
+-- the two tickets do not both have the id
 abbrev pub NotBoth : ℕ → Started → Started → Type 0
 NotBoth id s t = s.ticket.id ≡ id → t.ticket.id ≢ id
 
--- at most one ticket in hand bears the id, and one that bears it is current. The others may be of another table
+-- at most one pending ticket has the id, and if one has it, it is current. The others may be of another table
 pub record IsCurrentAt (w : World) (hand : Outstanding) (id : ℕ) : Type 0 where
   pub once : AllPairs (NotBoth id) hand.tickets
   pub current : All (λ s. s.ticket.id ≡ id → IsCurrent w s) hand.tickets
 
 -- ---- one call
 
--- the table and the hand are as they were
+-- neither the table nor what is pending has changed
 pub record ChangesNothing (old : World) (hand : Outstanding) (new : World) (hand' : Outstanding) : Type 0 where
   pub world : new ≡ old
   pub hand_is : hand' ≡ hand
 
--- the request goes on, and its ticket comes last in the hand, beside its want
+-- the request goes on, and its ticket becomes the last one pending, with its want
 pub record PutsTicket (old : World) (hand : Outstanding) (unique : ℕ) (want : Want) (new : World) (hand' : Outstanding) : Type 0 where
   pub ticket : Claim
   pub begins : Begins old unique want (begin.Go ticket) new
   pub hand_is : hand' ≡ record hand { tickets = hand.tickets ++ record { ticket = ticket; want = want } ∷ [] }
 
--- the ticket at that place is spent, and the answer comes last in the hand
+-- the ticket at that index is used up, and the answer becomes the last one pending
 pub record SpendsTicket (old : World) (hand : Outstanding) (place : ℕ) (outcome : Outcome) (new : World) (hand' : Outstanding) : Type 0 where
   pub within : place < length hand.tickets
   pub spent : Started
@@ -56,7 +57,7 @@ pub record SpendsTicket (old : World) (hand : Outstanding) (place : ℕ) (outcom
   pub finishes : FinishesAnew old spent.ticket.id outcome answer new
   pub hand_is : hand' ≡ record { tickets = remove hand.tickets place; answers = hand.answers ++ answer ∷ [] }
 
--- the answer at that place is spent
+-- the answer at that index is used up
 pub record SpendsAnswer (old : World) (hand : Outstanding) (place : ℕ) (taken : Bool) (settled : Settlement) (new : World) (hand' : Outstanding) : Type 0 where
   pub within : place < length hand.answers
   pub spent : Answer
@@ -64,7 +65,7 @@ pub record SpendsAnswer (old : World) (hand : Outstanding) (place : ℕ) (taken 
   pub settles : SettlesAnew old spent taken settled new
   pub hand_is : hand' ≡ record hand { answers = remove hand.answers place }
 
--- one call, by what it told
+-- one call with its result
 abbrev pub IsStep : World → Outstanding → TableCall → CallResult → World → Outstanding → Type 0
 IsStep old hand (call.Begin unique want) told.Begun new hand' = PutsTicket old hand unique want new hand'
 IsStep old hand (call.Begin unique want) told.Busy new hand' = Begins old unique want begin.Busy new × (hand' ≡ hand)
@@ -77,7 +78,7 @@ IsStep old hand (call.Forget number n) (told.Forgot amount) new hand' = ForgetsA
 IsStep old hand call.ClosePeriod (told.Closed fewer) new hand' = ClosesPeriod old fewer new × (hand' ≡ hand)
 IsStep old hand c t new hand' = ⊥
 
--- ---- all calls of a list, in order, each with what it told. The world after each is lawful
+-- ---- all calls of a list, in order, each with its result. The world after each is lawful
 
 abbrev pub Runs : World → Outstanding → List TableCall → List CallResult → World → Outstanding → Type 0
 Runs old hand [] [] new hand' = ChangesNothing old hand new hand'

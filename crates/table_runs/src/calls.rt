@@ -1,4 +1,4 @@
-//! Lists of calls, and what each told.
+//! Lists of calls with their results.
 
 ghost use Rattle.std.specs.Prelude.{ℕ, ◌≡◌, ◌+◌, ◌++◌, List, OnOk, OnErr, IfOk, length, drop, take};
 ghost use Rattle.ledger.specs.Sums.{totals_over};
@@ -15,43 +15,43 @@ use ledger::{Ledgers, Share};
 use std::alloc::AllocError;
 use table::{Answered, Begin, Outcome, Settled, Table, Want};
 
-/// One call. A ticket and an answer are named by their place in what is pending.
+/// One call. A ticket or an answer is given by its index among those pending.
 #[derive(Drop)]
 pub enum TableCall {
-    /// Takes up a request.
+    /// Begins a request.
     Begin { unique: u64, want: Want },
     /// Ends the work on the request of a ticket.
     Finish { place: usize, outcome: Outcome },
     /// Ends the request of an answer.
     Settle { place: usize, taken: bool },
-    /// Gives lookups of a node back.
+    /// Forgets lookups of a node.
     Forget { number: u64, n: u64 },
     /// Ends a period of the ledger.
     ClosePeriod,
 }
 
-/// What a call told.
+/// The result of a call.
 #[derive(Drop)]
 pub enum CallResult {
-    /// At its place nothing was pending, so that nothing was done.
+    /// Nothing was pending at its index, so nothing was done.
     Nothing,
-    /// The request goes on. Its ticket is the last one pending.
+    /// The request began. Its ticket is the last one pending.
     Begun,
     /// Another request holds a name that this one needs.
     Busy,
-    /// The request may not go on: an error number of Linux.
+    /// The request was refused with this error number of Linux.
     Refused(i32),
     /// The work has ended. Its answer is the last one pending.
     Finished,
     /// The request was settled.
     Settled(Settled),
-    /// So many lookups were given back.
+    /// That many lookups were forgotten.
     Forgot(u64),
-    /// The period ended, and the ledger became so much shorter.
+    /// The period ended, and the ledger became that much shorter.
     Closed(u64),
 }
 
-/// Takes up a request, with room for its ticket.
+/// Begins a request, with room for its ticket.
 fn begin<T: Ledgers>(
     table: &mut Table<T>,
     tickets: &mut Vec<Started>,
@@ -76,7 +76,7 @@ fn begin<T: Ledgers>(
     }
 }
 
-/// Ends the work on the request of the ticket at that place, with room for its answer.
+/// Ends the work on the request of the ticket at that index, with room for its answer.
 fn finish<T: Ledgers>(
     table: &mut Table<T>,
     share: &mut Share<T>,
@@ -100,7 +100,7 @@ fn finish<T: Ledgers>(
     Ok(CallResult::Finished)
 }
 
-/// Ends the request of the answer at that place.
+/// Ends the request of the answer at that index.
 fn settle<T: Ledgers>(
     table: &mut Table<T>,
     share: &mut Share<T>,
@@ -150,7 +150,7 @@ fn step<T: Ledgers>(
     }
 }
 
-/// Makes one call on what is pending. A refused growth changes nothing.
+/// Makes one call on what is pending. If memory is refused, nothing changes.
 pub fn make<T: Ledgers>(
     table: &mut Table<T>,
     share: &mut Share<T>,
@@ -168,7 +168,8 @@ pub fn make<T: Ledgers>(
     Ok(told)
 }
 
-/// Makes all calls in order, and adds what each told. Where a growth is refused, the calls before it stand, and what they told.
+/// Makes all calls in order, and appends their results. If memory is refused, the earlier calls and their results
+/// remain.
 pub fn run<T: Ledgers>(
     table: &mut Table<T>,
     share: &mut Share<T>,

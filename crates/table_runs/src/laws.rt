@@ -1,8 +1,8 @@
-//! What is proved of runs, whatever the table: on a function that does nothing.
+//! What is proved about runs, for any table. The law is a function that does nothing.
 
 ghost use Rattle.table_runs.specs.Laws.{AreForgottenGone};
 
-/// Where all lookups of a node are given back that nothing else keeps, no request on it goes on after.
+/// If all lookups of a node are forgotten and nothing else keeps it alive, no later request on it begins.
 pub fn forgotten_are_gone()
     ensures { AreForgottenGone }
 {}

@@ -1,4 +1,5 @@
-//! Laws over whole runs of a table, which no program calls: any calls, in any order, on any tickets and answers that earlier calls gave.
+//! Laws over whole runs of a table: any calls, in any order, on any tickets and answers that earlier calls gave. No
+//! program calls this crate.
 #![tactic(auto)]
 
 mod calls;

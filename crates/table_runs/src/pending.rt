@@ -1,4 +1,4 @@
-//! What a caller has in hand between its calls.
+//! What a caller has pending between its calls.
 
 ghost use Rattle.std.specs.Prelude.{◌≡◌, IfOk};
 
@@ -6,14 +6,16 @@ use std::alloc::{AllocError, Global};
 use std::marker::Model;
 use table::{Answered, Ticket, Want};
 
-/// A ticket, beside the want that its request was begun with.
+/// A ticket, with the want that its request was begun with. The want is kept here since a ticket does not show it, and
+/// the law says what the ticket's paths are.
 #[must_use]
 pub struct Started {
     pub ticket: Ticket,
     pub want: Want,
 }
 
-/// The tickets that were not finished yet and the answers that were not settled yet. A call names one of them by its place.
+/// The tickets that were not finished yet and the answers that were not settled yet. A call refers to one of them by
+/// its index.
 #[must_use]
 pub struct Pending {
     pub(crate) tickets: Vec<Started>,
@@ -33,7 +35,7 @@ impl Pending {
     ghost use Rattle.table_runs.specs.Runs.{IsCurrentAt};
     ghost use Rattle.table_steps.specs.World.{World};
 
-    /// Nothing. On any table, each of its tickets is current, since it has none.
+    /// Nothing pending. On any table all of its tickets are current, since there are none.
     pub fn new(alloc: Global) -> Pending
         ensures empty { result ≡ record { tickets = []; answers = [] } }
         ensures current { (w : World) (id : ℕ) → IsCurrentAt w result id }
@@ -68,7 +70,7 @@ impl Pending {
     }
 }
 
-/// The same want once more.
+/// A copy of the want.
 pub(crate) fn copy_of(want: &Want) -> Result<Want, AllocError>
     ensures { IfOk result (λ w. w ≡ want.now) }
 {

@@ -1,4 +1,4 @@
--- A log in plain words.
+-- A log as a history.
 use Rattle.std.proofs.Common.{ℕ, ◌≡◌, ◌==◌, Bool, true, false, List, [], ◌∷◌, ◌++◌, refl, ap, sym, ◌∙◌, append_assoc}
 use Rattle.std.proofs.lemmas.List.{append-nil}
 use Rattle.shared_history.specs.Views.{own, own_if}
@@ -25,7 +25,7 @@ module _ {L : Type 0} where
   calls_are index [] = refl
   calls_are index (x ∷ log) = ap (λ (cs : List Call). calls_if (x.0 == index) (call_in x) ++ cs) (calls_are index log) ∙ sym (calls_own (x.0 == index) x.1 (own index log))
 
-  -- one entry more
+  -- one more entry
   pub calls_more : (es : List (LogEntry L)) (e : LogEntry L) → calls_of (es ++ e ∷ []) ≡ calls_of es ++ unless_busy (call_of e.event)
   calls_more [] e = append-nil (unless_busy (call_of e.event))
   calls_more (x ∷ es) e = ap (λ (cs : List Call). unless_busy (call_of x.event) ++ cs) (calls_more es e) ∙ sym (append_assoc (unless_busy (call_of x.event)) (calls_of es) (unless_busy (call_of e.event)))

@@ -63,7 +63,7 @@ enters_all flights at at' ps ps' (key ∷ keys) [] given h = absurd h
 enters_all flights at at' ps ps' (key ∷ keys) (true ∷ found) [] h = absurd h
 enters_all flights at at' ps ps' (key ∷ keys) (false ∷ found) [] h = absurd h
 
--- a request is worked on, or none is
+-- some request is in progress, or none is
 at_work : (flights : RequestsInFlight) (id : ℕ) (o : Option RequestInFlight) → flights id ≡ o → ((f : RequestInFlight) (work : Work) → IsAtWork flights id f work → ⊥) ⊎ ((f : RequestInFlight) × (work : Work) × IsAtWork flights id f work)
 at_work flights id None e = inl (λ f work w. absurd (none-some f (sym e ∙ w.here)))
 at_work flights id (Some f) e = by_stage f.stage refl where
@@ -83,7 +83,7 @@ backs_all at at' ps ps' (n ∷ ns) (mid, qs, inl back, rest) =
     backs_all mid at' qs ps' ns rest ∙ (ap listed back.postings ∙ (let a = listed_more ps (Back n back.node.generation ∷ []) in omega arith))
 backs_all at at' ps ps' (n ∷ ns) (mid, qs, inr none, rest) = backs_all mid at' qs ps' ns rest ∙ ap listed none.postings
 
--- what goes back and what is forgotten lists no entry
+-- give-backs and forgets add no entry
 settled_lists : (old new : World) (answer : Answer) (taken : Bool) (settled : Settlement) → Settles old answer taken settled new → listed new.postings ≡ listed old.postings
 settled_lists old new answer taken settled s = elim (cases_eq_bool answer.lost) [
   | inl lost ↦ ap (λ (w : World). listed w.postings) (s.lost lost)
@@ -112,7 +112,7 @@ forgot_lists old new number n amount h = elim (cases_eq amount 0) [
   ]
 ]
 
--- a period that ends before it lists nothing
+-- a period that ends first adds no entry
 module _ (old mid : World) (n : ℕ) (room : MakesRoom old n mid) where
   room_lists : listed mid.postings ≡ listed old.postings
   room_lists = ap (λ (t : Totals). t.entries) (totals_renewed old mid room)

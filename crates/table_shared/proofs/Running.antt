@@ -1,4 +1,4 @@
--- A run goes on.
+-- Extending a run.
 use Rattle.std.proofs.Common.{ℕ, ◌≡◌, [], ◌∷◌, ◌++◌, refl, ap, sym, subst, ◌∙◌}
 use mathlib.Core.List.{IsPrefix}
 use Rattle.shared_history.specs.declared.views.View.{View}
@@ -16,7 +16,7 @@ module _ {L : Type 0} where
   run_more w [] x run step lawful = (run, step, lawful)
   run_more w (y ∷ log) x (first, made, rest) step lawful = (first, made, run_more (after y) log x rest step lawful)
 
-  -- by a step to a world that the entry shows
+  -- by a step to the world that the entry shows
   pub run_on : (w : World) (log : Log L) (by : ℕ) (entry : LogEntry L) (new : World) → new ≡ after (by, entry) → IsRun w log → IsStep (end_of w log) (call_of entry.event) new → IsLawfulWorld new → IsRun w (log ++ (by, entry) ∷ [])
   run_on w log by entry new is run step lawful = run_more w log (by, entry) run (subst (λ (v : World). IsStep (end_of w log) (call_of entry.event) v) is step) (subst IsLawfulWorld is lawful)
 
@@ -29,7 +29,7 @@ module _ {L : Type 0} where
   run_start w [] run = run
   run_start w (y ∷ log) (first, made, rest) = first
 
-  -- each call of a run led on from where the calls before it ended
+  -- each call of a run starts from the world in which the calls before it ended
   pub run_at : (w : World) (log : Log L) (x : ℕ × LogEntry L) (rest : Log L) → IsRun w (log ++ x ∷ rest) → IsLawfulWorld (end_of w log) × IsStep (end_of w log) (call_in x) (after x) × IsLawfulWorld (after x)
   run_at w [] x rest (first, made, run) = (first, made, run_start (after x) rest run)
   run_at w (y ∷ log) x rest (first, made, run) = run_at (after y) log x rest run

@@ -1,4 +1,4 @@
--- What threads did on one table, call by call, in plain words.
+-- What threads did on one table, call by call.
 use Rattle.std.specs.Prelude.{ℕ, ◌≡◌, ◌==◌, Bool, true, false, List, [], ◌∷◌, ◌++◌, map}
 use Rattle.table_steps.specs.declared.data.Begin.TheVariants as begin
 use Rattle.table_steps.specs.World.{IsLawfulWorld, World}
@@ -11,19 +11,20 @@ pub record Made : Type 0 where
   pub call : Call
   pub after : World
 
--- each call led on from where the one before it ended, and all worlds on the way are lawful
+-- each call starts from the world in which the one before it ended, and all worlds in between are lawful
 abbrev pub IsHistory : World → List Made → Type 0
 IsHistory start [] = IsLawfulWorld start
 IsHistory start (made ∷ history) = IsLawfulWorld start × IsStep start made.call made.after × IsHistory made.after history
 
--- where it ends
+-- the world in which it ends
 abbrev pub last_world : World → List Made → World
 last_world start [] = start
 last_world start (made ∷ history) = last_world made.after history
 
 -- ---- the calls of one thread
 
--- A begin that had to wait is made anew, and is not told. It may have ended a period of the ledger and changed nothing else.
+-- A begin that had to wait is made again, and is left out. It may have ended a period of the ledger, and changed
+-- nothing else.
 abbrev pub unless_busy : Call → List Call
 unless_busy (began unique want (begin.Go claim)) = began unique want (begin.Go claim) ∷ []
 unless_busy (began unique want begin.Busy) = []
@@ -42,10 +43,10 @@ abbrev pub calls_by : ℕ → List Made → List Call
 calls_by index [] = []
 calls_by index (made ∷ history) = calls_if (made.by == index) made.call ++ calls_by index history
 
--- ---- of a log
+-- ---- the same for a log
 
 module _ {L : Type 0} where
-  -- of the entries that one thread made
+  -- the calls of the entries that one thread made
   abbrev pub calls_of : List (LogEntry L) → List Call
   calls_of [] = []
   calls_of (entry ∷ entries) = unless_busy (call_of entry.event) ++ calls_of entries

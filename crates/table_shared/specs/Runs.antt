@@ -15,13 +15,13 @@ use Rattle.table_shared.specs.declared.entries.Event.TheVariants as event
 
 -- ---- one call
 
--- which call it was, with what it was given and what it answered
+-- a call with its arguments and its result
 pub data Call : Type 0 where
   began : (unique : ℕ) (want : Want) (told : Begin) → Call
   finished : (id : ℕ) (outcome : Outcome) (told : Answer) → Call
   settled : (answer : Answer) (taken : Bool) (told : Settlement) → Call
   forgot : (number n told : ℕ) → Call
-  -- the open file under a handle, if there is one
+  -- the file open under a handle, if there is one
   looked : (fh : ℕ) (told : Option OpenFile) → Call
 
 abbrev pub call_of : Event → Call
@@ -31,7 +31,7 @@ call_of (event.Settle answered taken told) = settled answered.value taken told.v
 call_of (event.Forget number n told) = forgot number n told
 call_of (event.Look fh told) = looked fh told.value
 
--- it led from one world to the other
+-- the call led from one world to the other
 abbrev pub IsStep : World → Call → World → Type 0
 IsStep old (began unique want told) new = BeginsAnew old unique want told new
 IsStep old (finished id outcome told) new = FinishesAnew old id outcome told new
@@ -41,7 +41,7 @@ IsStep old (looked fh told) new = (told ≡ old.files fh) × (new ≡ old)
 
 -- ---- all calls of a log
 
--- a log: entries, each with the index of the thread that made it. L stands for the ledgers of the table
+-- a log: entries, each with the index of the thread that made it. L is for the ledgers of the table
 abbrev pub Log : Type 0 → Type 0
 Log L = List (ℕ × LogEntry L)
 
@@ -52,19 +52,19 @@ module _ {L : Type 0} where
   abbrev pub call_in : ℕ × LogEntry L → Call
   call_in x = call_of x.1.event
 
-  -- each call led on from where the one before it ended, and all worlds on the way are lawful
+  -- each call starts from the world in which the one before it ended, and all worlds in between are lawful
   abbrev pub IsRun : World → Log L → Type 0
   IsRun w [] = IsLawfulWorld w
   IsRun w (x ∷ xs) = IsLawfulWorld w × IsStep w (call_in x) (after x) × IsRun (after x) xs
 
-  -- where it ends
+  -- the world in which it ends
   abbrev pub end_of : World → Log L → World
   end_of w [] = w
   end_of w (x ∷ xs) = end_of (after x) xs
 
-  -- ---- what one thread sees
+  -- ---- what one thread knows
 
-  -- the thread made this call: its log begins with the one before, and then this call, under its index. It is a run
+  -- the thread made this call: its log has the entries before, and then this call, with its index. It is a run
   pub record Makes (start : World) (call : Call) (old new : View (LogEntry L)) : Type 0 where
     pub between : Log L
     pub entry : LogEntry L

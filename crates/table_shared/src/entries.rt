@@ -1,4 +1,4 @@
-//! What a history of a table says of a call.
+//! What the history of a table records of a call.
 
 use ledger::Ledgers;
 use shared_history::Naming;
@@ -8,7 +8,7 @@ use table::{Answered, Begin, Outcome, Settled, Table};
 use table_files::OpenFile;
 use table_requests::Want;
 
-/// A call on the table, with what it was given and what it answered.
+/// A call on the table, with its arguments and its result.
 #[derive(Drop)]
 pub enum Event {
     Begin {
@@ -31,7 +31,7 @@ pub enum Event {
         n: u64,
         told: u64,
     },
-    /// A look at the open file under a handle.
+    /// A look-up of the file open under a handle.
     Look {
         fh: u64,
         told: Snapshot<Option<OpenFile>>,
@@ -45,7 +45,7 @@ pub struct LogEntry<T: Ledgers> {
     pub after: Snapshot<Table<T>>,
 }
 
-/// Which history it is, how the table was opened, and for how many threads. Each call of a program picks them.
+/// Which history it is, how the table was opened, and for how many threads. Each call of a program chooses them.
 pub trait Opening {
     ghost use Rattle.std.specs.Prelude.{ℕ};
     ghost use Rattle.atomic_table.specs.Seated.{TableId};
@@ -69,7 +69,7 @@ impl Opening for Brand {
     ghost threads = { 0 };
 }
 
-/// A log is lawful where it is a run of the opened table.
+/// A log is lawful if it is a run of the opened table.
 pub struct Runs<O> {
     of: PhantomData<O>,
 }

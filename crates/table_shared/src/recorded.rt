@@ -1,4 +1,4 @@
-//! The table under a lock, beside the whole log of its history.
+//! The table under a lock, with the whole log of its history.
 
 ghost use Rattle.std.specs.Prelude.{◌≡◌, ◌+◌, ◌<◌, ◌≤◌, ℕ, [], Bool};
 ghost use Rattle.ledger.specs.Shares.{plus};
@@ -20,8 +20,8 @@ use table::{Answered, Begin, Outcome, Settled, Table, Ticket};
 use table_files::OpenFile;
 use table_requests::Want;
 
-/// A table and the whole log of its history, which is a run of the opened table. The table is where it ends. It has as many threads at most
-/// as it was opened for.
+/// A table and the whole log of its history, which is a run of the opened table and ends with this table. It has at
+/// most as many threads as it was opened for.
 #[derive(Drop)]
 pub struct Recorded<T: Ledgers, O: Opening> {
     table: Table<T>,
@@ -50,7 +50,7 @@ impl<T: Ledgers, O: Opening> Model for Recorded<T, O> {
 }
 
 impl<T: Ledgers, O: Opening> Recorded<T, O> {
-    /// The table that was just opened, with a history of nothing.
+    /// The table that was just opened, with an empty history.
     pub fn new(
         opened: Opened<LogEntry<T>>,
         table: Table<T>,
@@ -64,7 +64,7 @@ impl<T: Ledgers, O: Opening> Recorded<T, O> {
         (history, Recorded { table, whole_log })
     }
 
-    /// Ends the period of the ledger where that is due, and takes up a request. Busy and a refusal change nothing else.
+    /// Ends the period of the ledger if that is due, and begins a request. Busy and a refusal change nothing else.
     pub fn begin(
         &mut self,
         history: &History<LogEntry<T>, Runs<O>>,
@@ -113,7 +113,7 @@ impl<T: Ledgers, O: Opening> Recorded<T, O> {
         answered
     }
 
-    /// Ends a request whose reply was taken, or was not.
+    /// Ends a request, after its reply was taken or was not.
     pub fn settle(
         &mut self,
         history: &History<LogEntry<T>, Runs<O>>,
@@ -139,7 +139,7 @@ impl<T: Ledgers, O: Opening> Recorded<T, O> {
         settled
     }
 
-    /// The client gives lookups of a node back.
+    /// The client forgets lookups of a node.
     pub fn forget(
         &mut self,
         history: &History<LogEntry<T>, Runs<O>>,
@@ -163,7 +163,7 @@ impl<T: Ledgers, O: Opening> Recorded<T, O> {
         amount
     }
 
-    /// The open file under a handle.
+    /// The file open under a handle.
     pub fn find(
         &mut self,
         history: &History<LogEntry<T>, Runs<O>>,
@@ -182,7 +182,7 @@ impl<T: Ledgers, O: Opening> Recorded<T, O> {
         found
     }
 
-    /// A thread more, with an index of its own. It has seen all that happened, and has done nothing.
+    /// One more thread, with an index of its own. It knows everything that happened, and has done nothing.
     pub fn thread(
         &mut self,
         history: &History<LogEntry<T>, Runs<O>>,
@@ -194,7 +194,8 @@ impl<T: Ledgers, O: Opening> Recorded<T, O> {
         history.enter(&mut self.whole_log)
     }
 
-    /// The history is a run, in which nobody made a call but the threads that the table was opened for: a call that does nothing.
+    /// For the prover: the history is a run, in which only threads that the table was opened for made calls. It does
+    /// nothing.
     pub fn attest(&self)
         ensures run { IsRun (opened_world O.limits) self.now.log }
         ensures nobody { (index : ℕ) → O.threads ≤ index → own index self.now.log ≡ [] }
@@ -202,7 +203,7 @@ impl<T: Ledgers, O: Opening> Recorded<T, O> {
         self.whole_log.attest(); // proof: its law
     }
 
-    /// What a thread made is what the whole history has of it.
+    /// For the prover: what a thread made is what the whole history has with its index.
     pub fn look(
         &mut self,
         history: &History<LogEntry<T>, Runs<O>>,
@@ -216,7 +217,7 @@ impl<T: Ledgers, O: Opening> Recorded<T, O> {
         me.attest(); // proof: its law
     }
 
-    /// The table. It is where the history ends.
+    /// The table. It is the state at the end of the history.
     pub fn into_table(self) -> Table<T>
         ensures { world_of result ≡ end_of (opened_world O.limits) self.log }
     {
@@ -228,7 +229,7 @@ impl<T: Ledgers, O: Opening> Recorded<T, O> {
     }
 }
 
-// The call that led to the table is the next of the history.
+// Adds the call that led to this table to the history.
 fn enter<T: Ledgers, O: Opening>(
     history: &History<LogEntry<T>, Runs<O>>,
     whole_log: &mut WholeLog<LogEntry<T>, Runs<O>>,

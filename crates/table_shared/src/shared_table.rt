@@ -20,7 +20,8 @@ use table::{Answered, Begin, Outcome, Settled, Table, Ticket};
 use table_files::OpenFile;
 use table_requests::Want;
 
-/// The table that all workers and the writer share. A request that is held up waits here until another has finished.
+/// The table that all workers and the writer share. A request that conflicts with another one waits here until some
+/// request has finished.
 #[derive(Drop)]
 pub struct SharedTable<T: Ledgers, O: Opening> {
     history: History<LogEntry<T>, Runs<O>>,
@@ -28,10 +29,10 @@ pub struct SharedTable<T: Ledgers, O: Opening> {
     finished: Condvar,
 }
 
-/// How often the table is asked for before it is waited for.
+/// How often the lock is tried before a thread waits for it.
 const ASKED: u32 = 128;
 
-/// The table and its whole history, once all who shared them have ended.
+/// The table and its whole history, after all who shared it have ended.
 #[derive(Drop)]
 pub struct Closed<T: Ledgers, O: Opening> {
     history: History<LogEntry<T>, Runs<O>>,
@@ -39,8 +40,8 @@ pub struct Closed<T: Ledgers, O: Opening> {
 }
 
 impl<T: Ledgers, O: Opening> Closed<T, O> {
-    /// What all threads did is one history of the opened table, and nobody made a call but the threads that it was opened for: a call
-    /// that does nothing.
+    /// For the prover: what all threads did is one history of the opened table, and only threads that it was opened for
+    /// made calls. It does nothing.
     pub fn attest(&self)
         ensures history { IsHistory (opened_world O.limits) (history_of self.now.table.log) }
         ensures nobody { (index : ℕ) → O.threads ≤ index → calls_by index (history_of self.now.table.log) ≡ [] }
@@ -48,7 +49,7 @@ impl<T: Ledgers, O: Opening> Closed<T, O> {
         self.table.attest(); // proof: its law
     }
 
-    /// The calls that a thread made are those that the history has of it.
+    /// For the prover: the calls that a thread made are those that the history has of it.
     pub fn look(&mut self, me: &mut ThreadLog<LogEntry<T>, Runs<O>>)
         ensures calls { calls_by me.old.by (history_of self.old.table.log) ≡ calls_of me.old.mine }
         ensures me { (me.new.by ≡ me.old.by) × (me.new.mine ≡ me.old.mine) }
@@ -57,7 +58,7 @@ impl<T: Ledgers, O: Opening> Closed<T, O> {
         self.table.look(&self.history, me);
     }
 
-    /// The table. It is where the history ends.
+    /// The table. It is the state at the end of the history.
     pub fn into_table(self) -> Table<T>
         ensures { world_of result ≡ last_world (opened_world O.limits) (history_of self.table.log) }
     {
@@ -67,7 +68,8 @@ impl<T: Ledgers, O: Opening> Closed<T, O> {
 }
 
 impl<T: Ledgers, O: Opening> SharedTable<T, O> {
-    /// The table that was just opened, and for each of its threads a log, with the index that its share has. Each has done nothing.
+    /// The table that was just opened, and a log for each of its threads, with the index of the thread's share. No
+    /// thread has done anything yet.
     pub fn new(
         alloc: Global,
         opened: Opened<LogEntry<T>>,
@@ -92,7 +94,7 @@ impl<T: Ledgers, O: Opening> SharedTable<T, O> {
         Ok((shared_table, thread_logs))
     }
 
-    /// The table, once all who shared it have ended.
+    /// The table, after all who shared it have ended.
     pub fn close(self) -> Closed<T, O> {
         let SharedTable {
             history,
@@ -105,8 +107,8 @@ impl<T: Ledgers, O: Opening> SharedTable<T, O> {
         }
     }
 
-    /// The table, once nobody else has it. Who has it gives it back within a microsecond or two, and to sleep and to be woken takes longer, so
-    /// it is asked for a while before it is waited for.
+    /// Locks the table. The thread that holds the lock releases it within a microsecond or two, and sleeping and being
+    /// woken takes longer. So the lock is tried for a while before the thread waits for it.
     fn enter<H: Wait>(&self, rt: &H) -> MutexGuard<'_, Recorded<T, O>> {
         for _ in 0..ASKED {
             if let Some(table) = self.table.try_lock() {
@@ -116,8 +118,8 @@ impl<T: Ledgers, O: Opening> SharedTable<T, O> {
         self.table.lock(rt)
     }
 
-    /// Ends the period of the ledger where that is due, and takes up a request. Where another one is in its way this waits until some
-    /// request has finished, and then answers Busy.
+    /// Ends the period of the ledger if that is due, and begins a request. If another request conflicts with it, this
+    /// waits until some request has finished, and then returns Busy.
     pub fn begin<H: Wait>(
         &self,
         rt: &H,
@@ -130,14 +132,14 @@ impl<T: Ledgers, O: Opening> SharedTable<T, O> {
         let mut table = self.enter(rt);
         let begin = table.begin(&self.history, me, unique, want);
         if is_busy(&begin) {
-            // No finish falls between: it takes the lock.
+            // No finish can be missed before this wait, since a finish takes the lock.
             let table = self.finished.wait(rt, table);
             drop(table);
         }
         begin
     }
 
-    /// Ends the work on a request, and wakes those that wait for that.
+    /// Ends the work on a request, and wakes the threads that wait for that.
     pub fn finish<H: Wait>(
         &self,
         rt: &H,
@@ -157,7 +159,7 @@ impl<T: Ledgers, O: Opening> SharedTable<T, O> {
         answered
     }
 
-    /// Ends a request whose reply was taken, or was not.
+    /// Ends a request, after its reply was taken or was not.
     pub fn settle<H: Wait>(
         &self,
         rt: &H,
@@ -175,7 +177,7 @@ impl<T: Ledgers, O: Opening> SharedTable<T, O> {
         table.settle(&self.history, me, share, answered, taken)
     }
 
-    /// The client gives lookups of a node back.
+    /// The client forgets lookups of a node.
     pub fn forget<H: Wait>(
         &self,
         rt: &H,
@@ -192,7 +194,7 @@ impl<T: Ledgers, O: Opening> SharedTable<T, O> {
         table.forget(&self.history, me, share, number, n)
     }
 
-    /// The open file under a handle.
+    /// The file open under a handle.
     pub fn find<H: Wait>(
         &self,
         rt: &H,

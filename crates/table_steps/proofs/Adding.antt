@@ -1,4 +1,4 @@
--- What stands adds up to one number.
+-- The sums over a world are determined.
 use Rattle.std.proofs.Common.{◌≡◌, ap, ◌∙◌}
 use Rattle.table_requests.specs.declared.data.Promise.{Promise}
 use Rattle.collections.proofs.Once.{sum_once}

@@ -1,4 +1,4 @@
--- What a change of names makes of each node, whether it is moved, cut or marked.
+-- What a change of names does to each node: it may be moved, cut or marked.
 use Rattle.std.proofs.Common.{ℕ, ◌+◌, ◌&&◌, ◌≡◌, ◌≢◌, Bool, true, false, List, [], ◌∷◌, ◌++◌, append-nil, Some, None, length, drop, reverse, refl, sym, ap, ◌∙◌, subst, inl, inr, arith}
 use Rattle.std.proofs.lemmas.Bool.{and_parts, cases_Bool, cases_eq, false≢true, true≢false}
 use Rattle.std.proofs.lemmas.List.{reverse-reverse}
@@ -29,7 +29,7 @@ use Rattle.table_steps.proofs.Lawful.{named_not_root}
 abbrev IsMarkNamed : Node → Type 0
 IsMarkNamed x = x.hidden ≡ true → (key : Key) × (x.place ≡ place.Named key)
 
--- a node that is cut stays so, any other keeps its mark, and no mark stands but on a named node
+-- a cut node stays cut, any other keeps its mark, and only nodes with a name have marks
 pub record IsAltered (x y : Node) : Type 0 where
   pub generation : y.generation ≡ x.generation
   pub count : y.count ≡ x.count
@@ -114,7 +114,7 @@ altered_back old new a n y h = elim (cases_option (old n)) [
   | inr (x, alive) ↦ let it = a.kept n x alive in (x, alive, subst (λ (w : Node). IsAltered x w) (same_Some it.0 y (sym it.1 ∙ h)) it.2)
 ]
 
--- ---- what is kept
+-- ---- what is kept alive
 
 -- the node of each open file
 pub nodes_altered : (files : Files) (old new : Lookup) → AltersNodes old new → HaveNodes old files → HaveNodes new files
@@ -168,7 +168,7 @@ module _ (old new : Lookup) (tree : IsTree new) (a : AltersNodes old new) (ps : 
 
 -- ---- what is hidden
 
--- where a move may be made, what stood at the source stands at the target
+-- if a move may be made, what was at the source is at the target
 moved_there : (p q : Names) → (IsProperPrefix q p → ⊥) → after_move p q (at_path p) ≡ at_path q
 moved_there p q apart = elim (cases_Bool (is_prefix p q && is_prefix q p)) [
   | inl both ↦
@@ -185,12 +185,12 @@ moved_there p q apart = elim (cases_Bool (is_prefix p q && is_prefix q p)) [
   ]
 ]
 
--- what stands at a location has its path
+-- what is at a location has its path
 there_path : (at : Lookup) (l : Location) (path : Names) → HasPath at l path → (n : ℕ) → IsThere at l n → IsPathOf at n path
 there_path at (AtNode m) path leads n e = subst (λ k. IsPathOf at k path) (sym e) leads
 there_path at (AtName parent name) path leads n named = subst (λ p. IsPathOf at n p) (sym leads.whole) (path_under at n parent leads.above name named leads.leads)
 
--- a node of another path than the root's is named
+-- a node whose path is not the root's has a name
 named_way : (at : Lookup) (n : ℕ) (way : Names) → way ≢ [] → Reaches at 1 n way → (key : Key) × IsNamed at n key.parent key.name
 named_way at n [] some h = absurd (some refl)
 named_way at n (name ∷ up) some h = (record { parent = h.0; name = name }, h.1)

@@ -1,4 +1,4 @@
--- The end of the work on a request: it holds nothing any more, and what it was promised is free for its end.
+-- The end of the work on a request: it holds nothing any more, and what it was promised is available for its end.
 use Rattle.std.proofs.Common.{ℕ, ◌≡◌, ◌==◌, Bool, true, List, [], append-nil, length, Some, None, refl, sym, ap, ◌∙◌, subst, inl, inr, arith, ◌≤◌}
 use Rattle.std.proofs.lemmas.Bool.{cond-true, eq-eqb, true≢false}
 use Rattle.std.proofs.lemmas.Option.{same_Some}
@@ -25,9 +25,9 @@ use Rattle.table_steps.proofs.Few.{few_with, none_dropped}
 use Rattle.terms.specs.declared.limits.Counts.TheVariants.{Free}
 use Rattle.table_requests.specs.declared.data.Stage.{Stage as Recording}
 
--- ---- none is worked on
+-- ---- there is no such request in progress
 
--- a request is worked on that was recorded so
+-- a request in progress with that record
 recorded_working : (all : RequestMaps) (id : ℕ) → HasNoneWorking all.at id → (f : RequestInFlight) (work : Work) → IsAtWork (flights_in all) id f work → ⊥
 recorded_working all id none f work at =
     let it = recorded_at all id f work at in
@@ -40,7 +40,7 @@ finishes_none s flights id o answer is none same = record {
   found = λ f work here. absurd (recorded_working (requests_of s.flights) id none f work here);
 }
 
--- ---- one is
+-- ---- there is one
 
 module _ (s : State) (kept : IsKept s) (flights : InFlight) (id : ℕ) (work : RecordedWork) (a : Answers (requests_of s.flights) id work (requests_of flights)) (law : AreLawfulRequests (requests_of flights)) where
   fewer : IsFewer (requests_of s.flights) (requests_of flights)
@@ -94,7 +94,7 @@ module _ (s : State) (kept : IsKept s) (flights : InFlight) (id : ℕ) (work : R
   pub was_ready : IsReady (at_in s.tree) (flight_of a.flight) (work_of work)
   was_ready = kept.ready id (flight_of a.flight) (work_of work) was_at_work
 
-  -- none of the others is in the way of what it held
+  -- no other request conflicts with what it held
   pub clear : HoldsUp (flights_in (requests_of flights)) work.held → ⊥
   clear up =
       let was = fewer_at_work (requests_of s.flights) (requests_of flights) fewer up.id up.flight up.work up.here in
@@ -105,7 +105,7 @@ module _ (s : State) (kept : IsKept s) (flights : InFlight) (id : ℕ) (work : R
       cc in
       kept.held.apart up.id id up.flight (flight_of a.flight) up.work (work_of work) was was_at_work other up.conflict
 
-  -- and what it was promised is free for its end
+  -- and what it was promised is available for its end
   abbrev pub ending : (s.limits.counts ≡ Free → flying.most_posted_by ((requests_of s.flights).at id) ≤ s.ledger.room) → IsEnding (record s { flights = flights }) id work
   ending room = record {
     flight = flying.answered a.flight;

@@ -1,4 +1,4 @@
--- What is held stays apart when one request more goes on, and the paths given to it are known.
+-- What is held stays free of conflicts when one more request begins, and the recorded paths are known.
 use Rattle.std.proofs.Common.{ℕ, ◌≡◌, ◌≢◌, ◌==◌, ◌⊎◌, List, All, Contains, Option, Some, get_or, refl, sym, ap, ◌∙◌, subst, inl, inr}
 use Rattle.std.proofs.lemmas.Bool.{cases_eq, cond-false, cond-true, eq-eqb, ne_eqb}
 use Rattle.std.proofs.lemmas.List.Elements.{All-contains_itself}
@@ -22,7 +22,7 @@ use Rattle.table_steps.specs.World.{RequestInFlight, RequestsInFlight, IsAtWork,
 use Rattle.table_steps.proofs.Staying.{prefixes_given, map_in}
 use Rattle.table_steps.proofs.Viewed.{at_work, recorded_at}
 
--- ---- in the way
+-- ---- conflicts
 
 in_the_way : (st : Recording) (wanted : Held) → flying.IsInTheWay st wanted → (v : RecordedWork) × (st ≡ recorded.Working v) × Conflict v.held wanted
 in_the_way (recorded.Working v) wanted conflict = (v, refl, conflict)
@@ -47,7 +47,7 @@ overlaps_right ps qs rs more m = (m.0, m.1, m.2, m.3, more m.1 m.4)
 overlaps_left : (ps qs rs : List Names) → ((q : Names) → Contains ps q → Contains qs q) → Overlaps ps rs → Overlaps qs rs
 overlaps_left ps qs rs more m = let it = more m.1 (m.0, m.2, m.3) in (it.0, m.1, it.1, it.2, m.4)
 
--- what one holds, the other holds too
+-- whatever the first holds, the second holds too
 record HoldsNoMore (h k : Held) : Type 0 where
   shared : (q : Names) → Contains h.shared q → Contains k.shared q
   exclusive : (q : Names) → Contains h.exclusive q → Contains k.exclusive q
@@ -78,12 +78,12 @@ same_names at d h k a b = record {
 pub held_up_same : (at : Lookup) (d : Footprint) (h k : Held) → Holds at d h → Holds at d k → (flights : RequestsInFlight) → HoldsUp flights h → HoldsUp flights k
 held_up_same at d h k a b flights up = record { id = up.id; flight = up.flight; work = up.work; here = up.here; conflict = conflict_more up.work.held h k (same_names at d h k a b) up.conflict }
 
--- ---- apart
+-- ---- no conflicts
 
 abbrev pub AreApart : RequestsInFlight → Type 0
 AreApart flights = (j k : ℕ) (f g : RequestInFlight) (v work : Work) → IsAtWork flights j f v → IsAtWork flights k g work → j ≢ k → Conflict v.held work.held → ⊥
 
--- who is found once one more is in flight is that one, or was found before
+-- a request found after one more began is that one, or was found before
 pub entry_some : {X : Type 0} → (at : ℕ → Option X) (key : ℕ) (x : X) (k : ℕ) (y : X) → with_entry at key (Some x) k ≡ Some y → ((key ≡ k) × (x ≡ y)) ⊎ ((key ≡ k → ⊥) × (at k ≡ Some y))
 entry_some at key x k y h = elim (cases_eq key k) [
   | inl e ↦ inl (e, same_Some x y (sym (cond-true (key == k) (Some x) (at k) (eq-eqb key k e)) ∙ h))
@@ -93,7 +93,7 @@ entry_some at key x k y h = elim (cases_eq key k) [
 same_working : (v w : Work) → Working v ≡ Working w → v ≡ w
 same_working v w e = cc
 
--- who is at work once one more is in flight is that one, or was at work before
+-- a request in progress after one more began is that one, or was in progress before
 pub at_work_more : (flights : RequestsInFlight) (id : ℕ) (f : RequestInFlight) (w : Work) → f.stage ≡ Working w → (k : ℕ) (g : RequestInFlight) (work : Work) → IsAtWork (with_entry flights id (Some f)) k g work
     → ((id ≡ k) × (f ≡ g) × (w ≡ work)) ⊎ IsAtWork flights k g work
 at_work_more flights id f w stage k g work h = elim (entry_some flights id f k g h.here) [
@@ -101,7 +101,7 @@ at_work_more flights id f w stage k g work h = elim (entry_some flights id f k g
   | inr (ne, was) ↦ inr (record { here = was; working = h.working })
 ]
 
--- one more, in whose way none is
+-- one more request, which conflicts with none
 pub apart_more : (flights : RequestsInFlight) (id : ℕ) (f : RequestInFlight) (w : Work) → f.stage ≡ Working w → (HoldsUp flights w.held → ⊥) → AreApart flights → AreApart (with_entry flights id (Some f))
 apart_more flights id f w stage clear apart j k a b v work ha hb ne conflict = elim (at_work_more flights id f w stage k b work hb) [
   | inl (e, same, w_is) ↦ elim (at_work_more flights id f w stage j a v ha) [
@@ -116,7 +116,7 @@ apart_more flights id f w stage clear apart j k a b v work ha hb ne conflict = e
 
 -- ---- known
 
--- what a footprint says is held covers the paths of the nodes that it names
+-- what a footprint holds covers the paths of the nodes that it names
 pub known_held : (at : Lookup) → IsTree at → (d : Footprint) (held : Held) → IsGrounded d → Holds at d held → (f : RequestInFlight) → ((n : ℕ) → Contains d.given n → Contains f.pins n) → All (IsGivenPath at held) held.given
 known_held at tree d held footprint holds f pinned k e within =
     let lead : GivenPath = get_or held.given k e in

@@ -1,4 +1,4 @@
--- What holds of the parts makes a lawful world.
+-- The invariants of the parts make a lawful world.
 use Rattle.std.proofs.Common.{arith}
 use Rattle.table_requests.specs.RequestMaps.{IsTallied}
 use Rattle.table_requests.specs.Listed.{requests_of}

@@ -11,7 +11,7 @@ use Rattle.std.proofs.lemmas.List.{drop_all}
 use Rattle.table_steps.proofs.Lawful.{booked_back}
 use Rattle.table_steps.proofs.Reasons.{HaveReasons-write, HaveReasons-more}
 
--- an entry of a suspect is taken back
+-- an entry of a node that may lack a reason is taken back
 pub nearly_back : (at new : Lookup) (ps qs : Periods) (pinned : ℕ → Bool) (but : List ℕ) (n : ℕ) (x : Node) → IsNearly at ps pinned but → at n ≡ Some x → 0 < x.count → IsAmong n but
     → new ≡ with_node at n (record x { count = x.count - 1 }) → qs ≡ posted ps (Back n x.generation) → IsTree new → IsNearly new qs pinned but
 nearly_back at new ps qs pinned but n x nearly stood some among is made tree = record {
@@ -24,7 +24,7 @@ nearly_back at new ps qs pinned but n x nearly stood some among is made tree = r
   };
 }
 
--- once the rest is taken back, all is
+-- after the rest is taken back, all is
 pub record Continues (old : Lookup) (ps : Periods) (given : List ℕ) (at : Lookup) (qs : Periods) (rest : List ℕ) : Type 0 where
   pub then : (new : Lookup) (rs : Periods) → TakesAllBack at qs rest new rs → TakesAllBack old ps given new rs
 
@@ -34,11 +34,11 @@ continues-one old ps given pins at qs i n mid ms within is back so_far = record 
   then = λ new rs h. so_far.then new rs (rw (drop-cons pins i 0 within, is) (mid, ms, back, rw add-one at h));
 }
 
--- where none is left, all is taken back
+-- if none is left, all is taken back
 pub continues-end : (old : Lookup) (ps : Periods) (given pins : List ℕ) (at : Lookup) (qs : Periods) (i : ℕ) → length pins ≤ i → Continues old ps given at qs (drop i pins) → TakesAllBack old ps given at qs
 continues-end old ps given pins at qs i all so_far = so_far.then at qs (subst (λ (ns : List ℕ). TakesAllBack at qs ns at qs) (sym (drop_all i pins all)) (refl, refl))
 
--- a number of a list is among its numbers
+-- an element of a list is a member of it
 pub among_at : (ns : List ℕ) (i n : ℕ) → i < length ns → get_or ns i 0 ≡ n → IsAmong n ns
 among_at [] i n within is = absurd (omega arith)
 among_at (m ∷ ns) zero n within is = inl (sym is)

@@ -1,4 +1,4 @@
--- A request that goes on has what it will rely on, whatever its want.
+-- A request that begins has what it will rely on, whatever its want.
 use Rattle.std.proofs.Common.{ℕ, ◌≡◌, ◌⊎◌, ◌↔◌, List, [], All, Contains, length, refl, sym, subst, inl, inr, arith}
 use Rattle.std.proofs.lemmas.List.{length-map}
 use Rattle.std.proofs.lemmas.List.Elements.{All-cons}

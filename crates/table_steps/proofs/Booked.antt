@@ -1,4 +1,4 @@
--- What the law says of nodes, ledger and pins, but for the tree and the reasons; and how it is kept.
+-- What the law says about nodes, ledger and pins, except for the tree and the reasons, and how it is maintained.
 use Rattle.std.proofs.Common.{ℕ, ◌+◌, ◌≡◌, ◌≢◌, Bool, false, List, [], ◌∷◌, ◌++◌, Some, None, refl, sym, ap, ◌∙◌, subst, ◌⊎◌, inl, inr, arith}
 use Rattle.std.proofs.lemmas.Bool.{cases_eq, true≢false}
 use Rattle.std.proofs.lemmas.List.Elements.{All-push, Contains-push}
@@ -18,14 +18,14 @@ use Rattle.table_steps.specs.Swept.{IsSwept}
 use Rattle.table_steps.specs.Upheld.{IsBooked}
 use Rattle.table_steps.proofs.Ordered.{IsOrdered-push, begun_more}
 
--- a pinned number leads somewhere after a write
+-- a pinned number still has a node after a write
 pins_write : (at : Lookup) (pinned : ℕ → Bool) (n : ℕ) (y : Node) → AreAlive at pinned → AreAlive (with_node at n y) pinned
 pins_write at pinned n y pins m h = elim (cases_eq n m) [
   | inl e ↦ (y, subst (λ k. with_node at n y k ≡ Some y) e (with_same at n y))
   | inr ne ↦ let was = pins m h in (was.0, with_other at n y m ne ∙ was.1)
 ]
 
--- the root is another node than one that is written
+-- the root is not the node that is written
 root_write : (at : Lookup) (ps : Periods) (p : Posting) (n : ℕ) (y : Node) → n ≢ 1 → number_of p ≡ n → HasPlainRoot at ps → HasPlainRoot (with_node at n y) (posted ps p)
 root_write at ps p n y not_root about root = record {
   plain = λ x h. root.plain x (sym (with_other at n y 1 not_root) ∙ h);
@@ -39,7 +39,7 @@ module _ (at : Lookup) (ps : Periods) (pinned : ℕ → Bool) (n : ℕ) (x : Nod
   count_else : (m h k : ℕ) → (m ≢ n) ⊎ (h ≢ x.generation) → k + given_back_of m h ps ≡ entries_of m h ps → k + given_back_of m h (posted ps p) ≡ entries_of m h (posted ps p)
   count_else m h k ne was = omega (arith, entries_of-untouched ps p n x.generation add take touches m h ne, given_back_of-untouched ps p n x.generation add take touches m h ne)
 
-  -- the count of a node goes with the posting
+  -- a node's count changes together with the posting
   counted_post : IsCounted at ps → c + take ≡ x.count + add → IsAllowed ps p → IsCounted (with_node at n (record x { count = c })) (posted ps p)
   counted_post counted change may = record {
     counts = λ m z h. elim (with_some at n (record x { count = c }) m z h) [
@@ -97,7 +97,7 @@ module _ (at : Lookup) (ps : Periods) (pinned : ℕ → Bool) (n : ℕ) (x : Nod
     alive = pins_write at pinned n (record x { count = c }) booked.alive;
   }
 
--- a number that no node bears is born
+-- a number that no node has is born
 module _ (at : Lookup) (ps : Periods) (pinned : ℕ → Bool) (n : ℕ) (y : Node) (fresh : at n ≡ None) (not_root : n ≢ 1) (gen : y.generation ≡ births_of n ps) (zero_count : y.count ≡ 0) (unmarked : y.hidden ≡ false) where
   counted_born : IsCounted at ps → IsCounted (with_node at n y) (posted ps (Born n y.generation))
   counted_born counted =
@@ -154,7 +154,7 @@ module _ (at : Lookup) (ps : Periods) (pinned : ℕ → Bool) (n : ℕ) (y : Nod
     alive = pins_write at pinned n y booked.alive;
   }
 
--- nodes that nothing keeps are dropped
+-- nodes that nothing keeps alive are dropped
 pub IsBooked-swept : (old new : Lookup) (ps : Periods) (pinned : ℕ → Bool) → IsSwept pinned old new → IsBooked old ps pinned → IsBooked new ps pinned
 IsBooked-swept old new ps pinned swept booked = record {
   root = record { plain = λ x h. booked.root.plain x (swept.kept 1 x h); unposted = booked.root.unposted };
@@ -186,6 +186,6 @@ IsBooked-swept old new ps pinned swept booked = record {
   ];
 }
 
--- other numbers are pinned, all of them alive
+-- other numbers are pinned, all with living nodes
 pub IsBooked-pins : (at : Lookup) (ps : Periods) (old new : ℕ → Bool) → AreAlive at new → IsBooked at ps old → IsBooked at ps new
 IsBooked-pins at ps old new pins booked = record { root = booked.root; counted = booked.counted; born = booked.born; carried = booked.carried; begun = booked.begun; marks = booked.marks; alive = pins }

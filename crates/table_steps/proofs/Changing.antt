@@ -1,4 +1,4 @@
--- What is kept of a table when names are cut or moved, and what nothing keeps any more goes.
+-- The invariants of a table when names are cut or moved and what nothing keeps alive any more is dropped.
 use Rattle.std.proofs.Common.{ℕ, ◌<◌, ◌≡◌, true, Option, Some, Contains, refl, sym, ap, ◌∙◌, subst, inl, inr, arith}
 use Rattle.std.proofs.lemmas.Option.{same_Some}
 use Rattle.tree.specs.declared.nodes.Node.{Node}
@@ -30,9 +30,9 @@ use Rattle.table_steps.proofs.Replacing.{alters_follow}
 use Rattle.table_steps.proofs.Staying.{KeepsPaths}
 use Rattle.table_steps.proofs.Viewed.{are_kept}
 
--- ---- a change of names that nothing is in the way of
+-- ---- a change of names without conflicts
 
--- what it makes of each node
+-- what it does to each node
 altered_by_change : (s : State) (change : footprints.Change) → MayAlter s change → (new : Lookup) → Alters (at_in s.tree) change new → AltersNodes (at_in s.tree) new
 altered_by_change s footprints.stays may new same = subst (λ (at : Lookup). AltersNodes (at_in s.tree) at) (sym same) (nothing_altered (at_in s.tree))
 altered_by_change s (footprints.cuts l) may new it = alters_by (after_cut it.path) (at_in s.tree) new refl it.changes
@@ -48,7 +48,7 @@ altered_by_change s (footprints.replaces l t c moved) may new it =
     (λ above. may.not_misplaced _ (inr (record { path = m.path; leads = m.leads; new_path = m.new_path; new_leads = m.new_leads; refused = inr (refl, above) }))) in
     alters_then (at_in s.tree) it.hidden new hidden (alters_follow it.hidden new m.new_path it.path it.new_path moved it.follows)
 
--- the nodes that names change under are given, but for the one over a node that is cut by its number
+-- the parents of changing names are given nodes, except the parent of a node that is cut by its number
 under_given : (s : State) (change : footprints.Change) (may : MayAlter s change) (n : ℕ) → (loses (at_in s.tree) change ≡ Some n → ⊥) → IsUnder (at_in s.tree) change n → (kept_by s.flights s.files) n ≡ true
 under_given s footprints.stays may n other bad = absurd bad
 under_given s (footprints.cuts (footprints.AtName p a)) may n other e = may.kept n (subst (λ k. Contains may.footprint.given k) (sym e) (may.grounded.exclusive (footprints.AtName p a) may.own))
@@ -90,14 +90,14 @@ module _ (s : State) (kept : IsKept s) (change : footprints.Change) (may : MayAl
     | inr (inr one) ↦ inr (inr (inl (under_given s change may n other one)))
   ]
 
-  -- one that was cut before has its count or its pin
+  -- a node that was cut before has a count or a pin
   cut_reason : (n : ℕ) (x y : Node) → IsAltered x y → at_in s.tree n ≡ Some x → x.place ≡ place.Cut → HasReason (at_in s.tree) (kept_by s.flights s.files) n x → HasReason (at_in mid) (kept_by s.flights s.files) n y
   cut_reason n x y altered stood lost (inl counted) = inl (subst (λ c. 0 < c) (sym altered.count) counted)
   cut_reason n x y altered stood lost (inr (inl hidden)) = let named = kept.law.booked.marks n x stood hidden in absurd (cut_named x.place named.0 lost named.1)
   cut_reason n x y altered stood lost (inr (inr (inl pin))) = inr (inr (inl pin))
   cut_reason n x y altered stood lost (inr (inr (inr child))) = absurd (cut_childless (at_in s.tree) kept.law.tree n x stood lost child)
 
-  -- but for nodes that were newly cut, and the one over a node that was cut by its number, each has a reason
+  -- each node has a reason, except newly cut ones and the parent of a node that is cut by its number
   pub mid_reasons : HaveReasonsAside (at_in mid) (kept_by s.flights s.files) (loses (at_in s.tree) change) mid.newly_cut
   mid_reasons = record {
     reasons = λ n y now not_root other aside.

@@ -1,4 +1,4 @@
--- Each step of a table leaves what the ends of others will remove without an open file.
+-- After each step, what the ends of other requests will remove still has no open file.
 use Rattle.std.proofs.Common.{ℕ, ◌-◌, ◌≡◌, ◌≢◌, ◌==◌, ◌⊎◌, if◌then◌else◌, Bool, true, false, List, [], ◌∷◌, ◌++◌, Option, Some, None, Contains, length, refl, sym, ap, ◌∙◌, subst, inl, inr, arith}
 use Rattle.std.proofs.lemmas.Bool.{cases_eq, cond-false, cond-true, eq-eqb, ne_eqb, false≢true}
 use Rattle.std.proofs.lemmas.Option.{none-some, same_Some}
@@ -40,7 +40,7 @@ use Rattle.table_steps.proofs.KeptMarks.{mark_altered}
 use Rattle.table_steps.proofs.Landing.{KeepsPlaces, backs_keep, entries_keep, path_unswept, rooted_unswept, somewhere, stands_kept, where_swept, written_keeps}
 use Rattle.table_steps.proofs.Remaining.{HoldsPrefixes}
 
--- what all this rests on of a world
+-- what all of this relies on in a world
 pub record IsSteady (w : World) : Type 0 where
   pub tree : IsTree w.at
   pub ready : AreReady w.at w.flights
@@ -51,7 +51,7 @@ pub record IsSteady (w : World) : Type 0 where
 pub fewer_open : (o : Option ℕ) (files : Files) (n : ℕ) → IsOpen (files_without o files) n → IsOpen files n
 fewer_open o files n isopen = record { handle = isopen.handle; file = isopen.file; here = still_open o files isopen.handle isopen.file isopen.here; node = isopen.node }
 
--- who is at work without one request was at work, under another id
+-- a request in progress after one was removed was in progress before, under another id
 other_work : (flights : RequestsInFlight) (id k : ℕ) (o : Option RequestInFlight) (f : RequestInFlight) (work : Work) → ((g : RequestInFlight) → o ≡ Some g → g.stage ≡ Working work → ⊥) → IsAtWork (with_entry flights id o) k f work → (id ≢ k) × IsAtWork flights k f work
 other_work flights id k o f work idle at = elim (cases_eq id k) [
   | inl e ↦ absurd (idle f (sym (cond-true (id == k) o (flights k) (eq-eqb id k e)) ∙ at.here) at.working)
@@ -109,7 +109,7 @@ hidden_begun seen (wants.Open number access) c fits none l h = absurd (none_in l
 hidden_begun seen (wants.Create parent name access) c fits none l h = absurd (none_in l h)
 hidden_begun seen (wants.Release number fh) c fits none l h = absurd (none_in l h)
 
--- the number of a node that is cut by it
+-- the number of the node that is cut by its number
 abbrev cut_by : Change → Option ℕ
 cut_by stays = None
 cut_by (cuts (AtNode number)) = Some number
@@ -122,7 +122,7 @@ cut_by (exchanges s t) = None
 not_cut : (change : Change) (number : ℕ) → cut_by change ≡ None → change ≡ cuts (AtNode number) → ⊥
 not_cut change number none e = none-some number (sym none ∙ ap cut_by e)
 
--- once the only opening is closed none is open
+-- after the only handle is closed, no file of the node is open
 closed_last : (files : Files) (number fh : ℕ) (file : OpenFile) → IsSum files (of_node number) 1 → files fh ≡ Some file → file.number ≡ number → IsOpen (files_without (Some fh) files) number → ⊥
 closed_last files number fh file sum here node isopen =
     let weighs : (g : OpenFile) → g.number ≡ number → of_node number g ≡ 1 = λ g e. cond-true (g.number == number) 1 0 (eq-eqb g.number number e) in
@@ -217,7 +217,7 @@ mark_back kept old mid new keeps swept n x here marked z here' =
     let it = keeps.place n x here in
     ap (λ (y : Node). y.hidden) (same_Some z it.0 (sym (swept.kept n z here') ∙ it.1)) ∙ it.3 marked
 
--- the node of an open file lives
+-- the node of an open file is alive
 opened_lives : (w : World) → HaveNodes w.at w.files → (n : ℕ) → IsOpen w.files n → (x : Node) × (w.at n ≡ Some x)
 opened_lives w nodes n isopen =
     let it = nodes isopen.handle isopen.file isopen.here in
@@ -294,7 +294,7 @@ none_entered owners at at' ps qs (key ∷ keys) [] bad = absurd bad
 none_entered owners at at' ps qs (key ∷ keys) (None ∷ given) more = none_entered owners at at' ps qs keys given more
 none_entered owners at at' ps qs (key ∷ keys) (Some g ∷ given) bad = absurd bad
 
--- a file that is open was open, or is the one that is opened
+-- a file that is open was open before, or is the one that is opened
 open_cases : (at : Lookup) (o : Option Opening) (old : World) (opened : Option ℕ) (files : Files) (last : ℕ) → Opens at o old opened files last → (n : ℕ) → IsOpen files n → IsOpen old.files n ⊎ ((opening : Opening) × (o ≡ Some opening) × IsThere at opening.target n)
 open_cases at None old opened files last it n isopen = inl (subst (λ (fs : Files). IsOpen fs n) it.1 isopen)
 open_cases at (Some opening) old opened files last it n isopen = elim (entry_some old.files last _ isopen.handle isopen.file (ap (λ (fs : Files). fs isopen.handle) (sym it.files_are) ∙ isopen.here)) [

@@ -1,4 +1,4 @@
--- What the end of a request's work removes has no open file still, where the nodes and the files changed elsewhere.
+-- What the end of a request's work removes still has no open file if nodes and files changed elsewhere.
 use Rattle.std.proofs.Common.{ℕ, ◌≡◌, ◌≢◌, ◌&&◌, if◌then◌else◌, Bool, true, false, not, [], ◌∷◌, ◌++◌, Some, Contains, reverse, refl, sym, ap, ◌∙◌, subst, inl, inr}
 use Rattle.std.proofs.lemmas.Bool.{cases_Bool, true≢false}
 use Rattle.std.proofs.lemmas.List.Elements.{All-contains}
@@ -74,14 +74,14 @@ module _ (old new : Lookup) (d : Footprint) (held : Held) (holds : Holds old d h
       let is : IsPathOf new it.0.number it.0.path = All-contains (λ (lead : GivenPath). IsPathOf new lead.number lead.path) held.given it.0 holds'.leads it.1 in
       (it.0.path, subst (λ k. IsPathOf old k it.0.path) it.2 was, subst (λ k. IsPathOf new k it.0.path) it.2 is)
 
-  -- a location has one path before and after
+  -- a location has the same path before and after
   pub located : (l : Location) → Contains d.given (base_of l) → (p : Names) × HasPath old l p × HasPath new l p
   located (AtNode n) given = given_both n given
   located (AtName parent name) given =
       let it = given_both parent given in
       (it.0 ++ name ∷ [], record { above = it.0; leads = it.1; whole = refl }, record { above = it.0; leads = it.2; whole = refl })
 
--- ---- what has no open file has none still
+-- ---- what had no open file still has none
 
 module _ (old new : Lookup) (files files' : Files) (f : RequestInFlight) (work : Work) (tree : IsTree old) (ready : IsReady old f work) (ready' : IsReady new f work)
     (back : (p : Names) → Contains work.held.exclusive p → HoldsPrefixes work.held p → p ≢ [] → (n : ℕ) → IsPathOf new n p → IsOpen files' n → IsPathOf old n p × IsOpen files n)

@@ -1,4 +1,4 @@
--- Requests whose work has ended, and requests that are worked on.
+-- Requests whose work has ended, and requests in progress.
 use Rattle.std.proofs.Common.{◌≡◌, Bool, true, false, refl, sym, ap, ◌∙◌}
 use Rattle.std.proofs.lemmas.Bool.{true≢false}
 use Rattle.table_requests.specs.declared.data.Stage.{Stage as Recording}
@@ -7,7 +7,7 @@ use Rattle.table_requests.specs.RequestMaps.{is_working}
 use Rattle.table_steps.specs.Kept.{stage_of}
 use Rattle.table_steps.specs.World.{Answered, RequestInFlight, Stage, Work, Working}
 
--- whether its work has ended
+-- whether the work has ended
 abbrev pub has_ended : Stage → Bool
 has_ended (Working work) = false
 has_ended (Answered before opened) = true
@@ -20,6 +20,6 @@ pub ended_recorded : (s : Recording) → has_ended (stage_of s) ≡ true → is_
 ended_recorded (recorded.Working work) ended = absurd (true≢false (sym ended))
 ended_recorded (recorded.Answered before opened) ended = refl
 
--- who is worked on has not ended
+-- the work on a request in progress has not ended
 pub not_ended : (f : RequestInFlight) (work : Work) → f.stage ≡ Working work → has_ended f.stage ≡ true → ⊥
 not_ended f work working ended = true≢false (sym ended ∙ ap has_ended working)

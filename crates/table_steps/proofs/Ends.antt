@@ -1,4 +1,5 @@
--- The end of a request's work: that nothing is given, what a change of names leaves, and the world in which it was not yet answered.
+-- The end of a request's work: giving nothing, what a change of names leaves, and the world before the request was
+-- answered.
 use Rattle.std.proofs.Common.{ℕ, ◌+◌, ◌≡◌, ◌==◌, ◌++◌, Bool, true, false, if◌then◌else◌, List, [], ◌∷◌, append-nil, length, Option, Some, None, refl, sym, ap, ◌∙◌, subst, inl, inr}
 use Rattle.std.specs.Prelude.{map}
 use Rattle.std.proofs.lemmas.Bool.{cases_eq, cond-false, cond-true, eq-eqb, ne_eqb}
@@ -33,7 +34,7 @@ entry_same at id x is = fun_ext (λ k. elim (cases_eq id k) [
   | inr ne ↦ cond-false (id == k) x (at k) (ne_eqb id k ne)
 ])
 
--- who is worked on beside a request that was answered
+-- the requests in progress other than one that was answered
 pub working_else : (flights : RequestsInFlight) (id : ℕ) (h : RequestInFlight) → has_ended h.stage ≡ true → (k : ℕ) (g : RequestInFlight) (work : Work) → IsAtWork (with_entry flights id (Some h)) k g work → IsAtWork flights k g work
 working_else flights id h ended k g work at = elim (cases_eq id k) [
   | inl e ↦
@@ -58,7 +59,7 @@ none_numbered (key ∷ keys) = none_numbered keys
 pub giving_same : (f : RequestInFlight) (given : List (Option Given)) → numbers_of given ≡ [] → giving f given ≡ f
 giving_same f given none = ap (λ (ps : List ℕ). let g : RequestInFlight = record f { pins = ps } in g) (ap (λ (ns : List ℕ). f.pins ++ ns) none ∙ append-nil f.pins)
 
--- what a request gives that is answered already, and has given nothing yet
+-- what a request gives if it is answered and has given nothing yet
 pub giving_answered : (f : RequestInFlight) (given : List (Option Given)) → f.stage ≡ Answered (length f.pins) None → giving f given ≡ answered f given None
 giving_answered f given idle = ap (λ s. let g : RequestInFlight = record f { stage = s; pins = f.pins ++ numbers_of given } in g) idle
 
@@ -71,7 +72,7 @@ answered_twice f given opened = ap (λ (ps : List ℕ). let g : RequestInFlight 
 pub nothing_changes : (w : World) (kept : ℕ → Bool) → AreKept w.flights w.files kept → HaveReasons w.at kept → ChangesNames w stays w
 nothing_changes w kept keeps reasons = record { altered = w.at; alters = refl; sweeps = record { kept = kept; keeps = keeps; swept = IsSwept-refl kept w.at; reasons = reasons }; new_is = refl }
 
--- a change of names alone
+-- only a change of names
 pub ends_changed : (old new : World) (id : ℕ) (f : RequestInFlight) → old.flights id ≡ Some f → f.stage ≡ Answered (length f.pins) None → (act : Act) (keys : List Key) → act.found ≡ map (λ key. false) keys → act.opens ≡ None → ChangesNames old act.change new
     → Ends old id f act keys (record { id = id; given = nothing_for keys; lost = false; opened = None }) new
 ends_changed old new id f here idle act keys found none changes =
@@ -99,7 +100,7 @@ ends_changed old new id f here idle act keys found none changes =
           ∙ ap (λ (n : ℕ). let w : World = record old { at = new.at; postings = new.postings; flights = with_entry old.flights id (Some (answered f given None)); files = new.files; last_handle = n } in w) (sym last))));
     }
 
--- what is opened looks at the open files and the last handle alone
+-- opening a file depends only on the open files and the last handle
 opens_same : (at : Lookup) (o : Option Opening) (v w : World) (opened : Option ℕ) (files : Files) (last : ℕ) → v.files ≡ w.files → v.last_handle ≡ w.last_handle → Opens at o v opened files last → Opens at o w opened files last
 opens_same at None v w opened files last e f it = (it.0, it.1 ∙ e, it.2 ∙ f)
 opens_same at (Some opening) v w opened files last e f it = record {
@@ -112,9 +113,9 @@ opens_same at (Some opening) v w opened files last e f it = record {
   files_are = it.files_are ∙ ap (λ (fs : Files). with_entry fs last (Some (record { number = it.number; generation = it.node.generation; access = opening.access }))) e;
 }
 
--- ---- what was answered first
+-- ---- answered first
 
--- what ends where the request is already answered is the end where it was not
+-- the end from the world in which the request is already answered is the end from the world before
 pub ends_answered : (old mid new : World) (id : ℕ) (f : RequestInFlight) (act : Act) (keys : List Key) (answer : Answer) → mid ≡ record old { flights = with_entry old.flights id (Some (answered f [] None)) }
     → Ends mid id (answered f [] None) act keys answer new → Ends old id f act keys answer new
 ends_answered old mid new id f act keys answer is e =

@@ -1,4 +1,4 @@
--- What an exchange of two names makes of a tree.
+-- What an exchange of two names does to a tree.
 use Rattle.std.proofs.Common.{ℤ, ◌≡◌, ◌≢◌, true, [], ◌∷◌, ◌++◌, refl, sym, ap, ◌∙◌, ◌⊎◌, inl, inr}
 use Rattle.std.proofs.lemmas.Bool.{cases_Bool, cases_eq, true≢false}
 use Rattle.paths.specs.Prefixes.{Names, is_prefix}
@@ -11,7 +11,7 @@ use Rattle.table_footprints.specs.Asked.{IsProperPrefix, IsRefusedBetween, IsRef
 use Rattle.table_steps.specs.Ending.{KeepsChildren, name_at}
 use Rattle.table_steps.specs.Steps as steps
 
--- a prefix that is no proper one is the whole
+-- a prefix that is not a proper one is the whole path
 whole_prefix : (p q : Names) → (IsProperPrefix p q → ⊥) → is_prefix p q ≡ true → p ≡ q
 whole_prefix p q proper prefix = elim (cases_Bool (is_prefix q p)) [
   | inl back ↦ is_prefix-both p q prefix back
@@ -54,7 +54,7 @@ module _ (old new : Lookup) (source target : Key) (exchanges : Exchanges old new
     changes = exchanges.changes;
   }
 
-  -- who had a child has it still, or was the parent of one of the two names
+  -- a node with a child still has it, or was the parent of one of the two names
   pub exchange_children : KeepsChildren old (λ n. (n ≡ source.parent) ⊎ (n ≡ target.parent)) new
   exchange_children = record {
     child = λ n child. elim (cases_eq n source.parent) [

@@ -1,4 +1,5 @@
--- Where counts are free, a period that has just begun has room for the next call on each request: what changes of it as requests do.
+-- If counts are free, a period that has just begun has room for the next call on each request: how this changes with
+-- the requests.
 use Rattle.std.proofs.Common.{ℕ, ◌+◌, ◌≤◌, ◌≡◌, ◌==◌, Bool, true, false, List, [], ◌∷◌, ◌++◌, Option, Some, None, cond, drop, length, sym, ap, ◌∙◌, subst, inl, inr, arith}
 use Rattle.std.proofs.lemmas.Bool.{cases_eq, cond-false, cond-true, eq-eqb, ne_eqb}
 use Rattle.std.proofs.lemmas.List.{drop_all, length-append, length-drop}
@@ -12,7 +13,7 @@ use Rattle.terms.specs.declared.limits.Limits.{Limits}
 use Rattle.table_steps.specs.Kept.{AreFew}
 
 module _ (limits : Limits) (old new : RequestMaps) (id : ℕ) where
-  -- one request is another, which needs no more
+  -- one request is replaced by one that needs no more
   pub few_with : (f : Recorded) → new.at ≡ with_flight old.at id f → AreFew limits old → (limits.counts ≡ Free → limits.nodes + most_posted f.stage f.pins.numbers ≤ limits.postings) → AreFew limits new
   few_with f at was now free k g here = elim (cases_eq id k) [
     | inl e ↦
@@ -21,18 +22,18 @@ module _ (limits : Limits) (old new : RequestMaps) (id : ℕ) where
     | inr ne ↦ was free k g (sym (ap (λ (all : ℕ → Option Recorded). all k) at ∙ cond-false (id == k) (Some f) (old.at k) (ne_eqb id k ne)) ∙ here)
   ]
 
-  -- one request goes
+  -- one request is removed
   pub few_without : new.at ≡ without_flight old.at id → AreFew limits old → AreFew limits new
   few_without at was free k g here = elim (cases_eq id k) [
     | inl e ↦ absurd (none-some g (sym (ap (λ (all : ℕ → Option Recorded). all k) at ∙ cond-true (id == k) None (old.at k) (eq-eqb id k e)) ∙ here))
     | inr ne ↦ was free k g (sym (ap (λ (all : ℕ → Option Recorded). all k) at ∙ cond-false (id == k) None (old.at k) (ne_eqb id k ne)) ∙ here)
   ]
 
--- it gave nothing yet
+-- it has given nothing yet
 pub none_dropped : (pins : List ℕ) → length (drop (length pins) pins) ≡ 0
 none_dropped pins = ap length (drop_all (length pins) pins (omega arith))
 
--- it gave one number more
+-- it gave one more number
 pub one_pinned : (st : Recording) (pins : List ℕ) (n : ℕ) → is_working st ≡ false → most_posted st (pins ++ n ∷ []) ≤ most_posted st pins + 1
 one_pinned (recorded.Working work) pins n idle = absurd (cc)
 one_pinned (recorded.Answered before opened) pins n idle = omega (arith, length-drop before (pins ++ n ∷ []), length-drop before pins, length-append pins (n ∷ []))

@@ -1,4 +1,4 @@
--- What the parts keep alive, and that open files keep their nodes in each step.
+-- What the parts keep alive, and that open files keep their nodes alive in each step.
 use Rattle.std.proofs.Common.{ℕ, ◌+◌, ◌-◌, ◌≡◌, ◌==◌, ◌||◌, Bool, true, false, List, [], ◌∷◌, Option, Some, None, refl, sym, ap, ◌∙◌, subst, ◌⊎◌, inl, inr, arith}
 use Rattle.std.proofs.lemmas.Bool.{cases_Bool, cases_eq, cond-false, cond-true, eq-eqb, ne_eqb, true≢false, or_cases, or_left, or_right}
 use Rattle.std.proofs.lemmas.Option.{none-some, same_Some}
@@ -22,7 +22,7 @@ use Rattle.table_steps.proofs.Ends.{entry_same}
 use Rattle.table_steps.proofs.Reasons.{HaveReasons-unpin}
 use Rattle.table_steps.proofs.Remaining.{stays_pinned}
 
--- ---- what is kept
+-- ---- what is kept alive
 
 module _ (flights : InFlight) (files : Filing) (n : ℕ) where
   pub cases_kept : kept_by flights files n ≡ true → ((requests_of flights).pinned n ≡ true) ⊎ ((files_of files).opened n ≡ true)
@@ -37,21 +37,21 @@ module _ (flights : InFlight) (files : Filing) (n : ℕ) where
   unfolding kept_by
   keeps_open h = or_right ((requests_of flights).pinned n) ((files_of files).opened n) h
 
--- more pins keep more
+-- more pins keep more alive
 pub kept_more : (old new : InFlight) (files : Filing) → ((n : ℕ) → (requests_of old).pinned n ≡ true → (requests_of new).pinned n ≡ true) → (n : ℕ) → kept_by old files n ≡ true → kept_by new files n ≡ true
 kept_more old new files more n h = elim (cases_kept old files n h) [
   | inl pin ↦ keeps_pinned new files n (more n pin)
   | inr opened ↦ keeps_open new files n opened
 ]
 
--- the same pins and the same open files keep the same
+-- the same pins and the same open files keep the same alive
 pub kept_same : (old new : InFlight) (files now : Filing) → (requests_of new).pinned ≡ (requests_of old).pinned → (files_of now).opened ≡ (files_of files).opened → kept_by new now ≡ kept_by old files
 unfolding kept_by
 kept_same old new files now e f =
     ap {B = ℕ → Bool} (λ (pinned : ℕ → Bool). λ (n : ℕ). pinned n || (files_of now).opened n) e
     ∙ ap {B = ℕ → Bool} (λ (opened : ℕ → Bool). λ (n : ℕ). (requests_of old).pinned n || opened n) f
 
--- the node of an open file is kept
+-- the node of an open file is kept alive
 pub file_kept : (flights : InFlight) (files : Filing) → AreOpenEntries (files_of files) → (handle : ℕ) (file : OpenFile) → (files_of files).at handle ≡ Some file → kept_by flights files file.number ≡ true
 file_kept flights files filed handle file here = keeps_open flights files file.number ((filed.opens file.number).1 (record { handle = handle; file = file; here = here; node = refl }))
 
@@ -95,7 +95,7 @@ module _ (files : Files) where
       nodes_back ns mid new ms qs rest (subst (λ a. HaveNodes a files) (sym back.nodes) (nodes_written at n back.node (record back.node { count = back.node.count - 1 }) back.here refl have))
   nodes_back (n ∷ ns) at new ps qs (mid, ms, inr none, rest) have = nodes_back ns mid new ms qs rest (subst (λ a. HaveNodes a files) (sym none.nodes) have)
 
--- nodes that nothing keeps are dropped
+-- nodes that nothing keeps alive are dropped
 pub nodes_swept : (flights : InFlight) (files : Filing) → AreOpenEntries (files_of files) → (old new : Lookup) → IsSwept (kept_by flights files) old new → HaveNodes old (files_of files).at → HaveNodes new (files_of files).at
 nodes_swept flights files filed old new swept have handle file here =
     let it = have handle file here in
@@ -105,7 +105,7 @@ nodes_swept flights files filed old new swept have handle file here =
       generation = it.generation;
     }
 
--- where none is in flight and no file is open, nothing is kept
+-- if no request is in flight and no file is open, nothing is kept alive
 pub none_kept : (flights : InFlight) (files : Filing) → (requests_of flights).pinned ≡ (λ _. false) → AreOpenEntries (files_of files) → (files_of files).at ≡ no_files → kept_by flights files ≡ (λ _. false)
 none_kept flights files none filed empty = fun_ext (λ n. elim (cases_Bool (kept_by flights files n)) [
   | inl held ↦ elim (cases_kept flights files n held) [
@@ -117,14 +117,14 @@ none_kept flights files none filed empty = fun_ext (λ n. elim (cases_Bool (kept
 
 -- ---- files that are closed
 
--- fewer open files keep less
+-- fewer open files keep less alive
 pub kept_fewer : (flights : InFlight) (files now : Filing) → ((n : ℕ) → (files_of now).opened n ≡ true → (files_of files).opened n ≡ true) → (n : ℕ) → kept_by flights now n ≡ true → kept_by flights files n ≡ true
 kept_fewer flights files now fewer n h = elim (cases_kept flights now n h) [
   | inl pin ↦ keeps_pinned flights files n pin
   | inr opened ↦ keeps_open flights files n (fewer n opened)
 ]
 
--- what is still open was so before
+-- what is still open was open before
 pub still_open : (handle : Option ℕ) (files : Files) (k : ℕ) (file : OpenFile) → files_without handle files k ≡ Some file → files k ≡ Some file
 still_open None files k file h = h
 still_open (Some handle) files k file h = elim (cases_eq handle k) [
@@ -152,7 +152,7 @@ module _ (flights : InFlight) (old new : Filing) (handle : ℕ) (file : OpenFile
     filed = filed';
   }
 
-  -- its node may have lost its last reason
+  -- the node may have lost its last reason
   closed_reason : (n : ℕ) (but : List ℕ) → kept_by flights old n ≡ true → (kept_by flights new n ≡ true) ⊎ IsAmong n (file.number ∷ but)
   closed_reason n but h = elim (cases_kept flights old n h) [
     | inl pin ↦ inl (keeps_pinned flights new n pin)

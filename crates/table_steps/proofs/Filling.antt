@@ -32,7 +32,7 @@ use Rattle.table_steps.proofs.Reasons.{IsSwept-refl}
 use Rattle.table_steps.proofs.Ended.{ended_seen, has_ended, not_ended}
 use Rattle.table_steps.proofs.Viewed.{at_work, recorded_at}
 
--- ---- one name more
+-- ---- one more name
 
 entries_push : (flights : RequestsInFlight) (at mid at' : Lookup) (ps qs ps' : Periods) (keys : List Key) (found : List Bool) (given : List (Option Given)) (key : Key) (b : Bool) (g : Option Given)
     → EntersAll flights at ps keys found given mid qs → EntersAll flights mid qs (key ∷ []) (b ∷ []) (g ∷ []) at' ps'
@@ -46,7 +46,7 @@ entries_push flights at mid at' ps qs ps' [] [] [] key b g same one =
     subst (λ (a : Lookup). EntersAll flights a ps (key ∷ []) (b ∷ []) (g ∷ []) at' ps') same.0 (subst (λ (rs : Periods). EntersAll flights mid rs (key ∷ []) (b ∷ []) (g ∷ []) at' ps') same.1 one)
 entries_push flights at mid at' ps qs ps' keys found given key b g bad one = absurd bad
 
--- where the same names are held exclusively, the same entries are given
+-- if the same names are held exclusively, the same entries are given
 entries_owners : (f g : RequestsInFlight) → ((at : Lookup) (key : Key) → HasExclusiveHolder at f key ↔ HasExclusiveHolder at g key) → (at at' : Lookup) (ps ps' : Periods) (keys : List Key) (found : List Bool) (given : List (Option Given))
     → EntersAll f at ps keys found given at' ps' → EntersAll g at ps keys found given at' ps'
 entries_owners f g same at at' ps ps' (key ∷ keys) (true ∷ found) (Some h ∷ given) (free, (mid, qs, enters, more)) =
@@ -56,7 +56,7 @@ entries_owners f g same at at' ps ps' (key ∷ keys) (false ∷ found) (None ∷
 entries_owners f g same at at' ps ps' [] [] [] is = is
 entries_owners f g same at at' ps ps' keys found given bad = absurd bad
 
--- who is worked on is not answered
+-- a request in progress is not answered
 still_working : (flights : RequestsInFlight) (id : ℕ) (f : RequestInFlight) (x : Option RequestInFlight) → flights id ≡ Some f → has_ended f.stage ≡ true → (k : ℕ) (g : RequestInFlight) (work : Work) → IsAtWork flights k g work → IsAtWork (with_entry flights id x) k g work
 still_working flights id f x here idle k g work at = elim (cases_eq id k) [
   | inl e ↦
@@ -105,7 +105,7 @@ gives_push old mid new id f h keys found given key b g here idle there before on
 pub gives_one : (old new : World) (id : ℕ) (f : RequestInFlight) (key : Key) (g : Given) → (HasExclusiveHolder old.at old.flights key → ⊥) → EntersName old id f key g new → GivesAll old id f (key ∷ []) (true ∷ []) (Some g ∷ []) new
 gives_one old new id f key g free one = record { enters = (free, (new.at, new.postings, one.enters, (refl, refl))); new_is = one.new_is }
 
--- the same world, where nothing is given
+-- the same world, if nothing is given
 same_world : (w : World) (id : ℕ) (f : RequestInFlight) (given : List (Option Given)) → w.flights id ≡ Some f → numbers_of given ≡ [] → w ≡ record w { flights = with_entry w.flights id (Some (giving f given)) }
 same_world w id f given here none =
     let same : with_entry w.flights id (Some (giving f given)) ≡ w.flights =
@@ -118,7 +118,7 @@ gives_none w id f keys here = record { enters = none_entered w.flights w.at w.po
 pub gives_owned : (w : World) (id : ℕ) (f : RequestInFlight) (key : Key) → w.flights id ≡ Some f → HasExclusiveHolder w.at w.flights key → GivesAll w id f (key ∷ []) (true ∷ []) (None ∷ []) w
 gives_owned w id f key here owned = record { enters = (owned, (refl, refl)); new_is = same_world w id f (None ∷ []) here refl }
 
--- entries alone are the end of a request
+-- only entries are the end of a request
 pub ends_given : (old new : World) (id : ℕ) (f : RequestInFlight) (keys : List Key) (found : List Bool) (given : List (Option Given)) (kept : ℕ → Bool) → old.flights id ≡ Some f → f.stage ≡ Answered (length f.pins) None → AreKept new.flights new.files kept → HaveReasons new.at kept
     → GivesAll old id f keys found given new → Ends old id f (record { found = found; change = stays; opens = None }) keys (record { id = id; given = given; lost = false; opened = None }) new
 ends_given old new id f keys found given kept here idle keeps reasons gives =
@@ -143,7 +143,7 @@ ends_given old new id f keys found given kept here idle keeps reasons gives =
           ∙ ap (λ (n : ℕ). let w : World = record old { at = new.at; postings = new.postings; flights = now; files = new.files; last_handle = n } in w) (sym last)));
     }
 
--- ---- who holds a name exclusively
+-- ---- exclusive holders of a name
 
 owner_in : (st : Recording) (path : Names) → flying.HoldsExclusively st path → (v : RecordedWork) × (st ≡ recorded.Working v) × Contains v.held.exclusive path
 owner_in (recorded.Working v) path exclusive = (v, refl, exclusive)
@@ -170,7 +170,7 @@ owned_recorded at tree all key folder leads o =
     subst (λ (w : Work). Contains w.held.exclusive (folder ++ key.name ∷ [])) (sym it.work_is) (subst (λ (p : Names). Contains o.work.held.exclusive p) path o.exclusive) in
     record { id = o.id; flight = it.flight; here = it.here; exclusive = subst (λ (st : Recording). flying.HoldsExclusively st (folder ++ key.name ∷ [])) (sym it.working) exclusive }
 
--- ---- what is promised for the names that are left
+-- ---- what is promised for the remaining names
 
 module _ (s : State) (id : ℕ) (key : Key) (rest : List Key) (fill : MayFill s id (key ∷ rest)) where
   pub may_first : MayEnter s id (key ∷ [])
@@ -220,7 +220,7 @@ module _ (s : State) (id : ℕ) (key : Key) (rest : List Key) (fill : MayFill s 
     few = λ f. omega (arith, fill.few f);
   }
 
--- the names of a page and their copies come one by one
+-- the names of a page come one by one with their copies
 pub next_copy : {X Z : Type 0} → (s t : IntoIter X Z) (o : Option X) (x : X) (rest : List X) → into_iter_items s ≡ x ∷ rest → length (x ∷ rest) ≡ into_iter_len s → into_iter_steps s o t → (into_iter_items t ≡ rest) × (into_iter_len t + 1 ≡ into_iter_len s)
 next_copy s t None x rest items len steps = absurd (omega (arith, steps.0, len))
 next_copy s t (Some y) x rest items len steps =
@@ -234,7 +234,7 @@ keys_push folder names name = map-append (λ (x : Name). let key : Key = record 
 pub found_more : (found : List Bool) (i : ℕ) → i < length found → take (i + 1) found ≡ take i found ++ get_or found i false ∷ []
 found_more found i within = take_more found i false within
 
--- nothing for one name more
+-- nothing for one more name
 pub nothing_more : (keys : List Key) (i : ℕ) → i < length keys → nothing_for (take (i + 1) keys) ≡ nothing_for (take i keys) ++ None ∷ []
 nothing_more keys i within =
     let none : Key = record { parent = 0; name = [] } in

@@ -1,4 +1,4 @@
--- The end of one request's work, whatever its want and its outcome, leaves all others what they rely on.
+-- The end of one request's work does not affect what others rely on, whatever its want and its outcome.
 use Rattle.std.proofs.Common.{ℕ, ◌≡◌, ◌==◌, true, Option, Some, None, reverse, sym, ap, ◌∙◌, inl, inr}
 use Rattle.std.proofs.lemmas.Bool.{cases_eq, cond-false, cond-true, eq-eqb, ne_eqb}
 use Rattle.std.proofs.lemmas.Option.{none-some}
@@ -15,7 +15,7 @@ use Rattle.table_steps.specs.World.{RequestInFlight, IsAtWork, IsReady, Work, Wo
 use Rattle.table_steps.proofs.Guarding.{act_own, all_entered, left_where, path_stays, reaches_swept}
 use Rattle.table_steps.proofs.Staying.{KeepsPaths, holds_kept, its_row}
 
--- another key leads where it led
+-- another key leads to the same as before
 entry_other : {X : Type 0} → (at : ℕ → Option X) (id k : ℕ) (x : Option X) (y : X) → with_entry at id None k ≡ Some y → with_entry at id x k ≡ Some y
 entry_other at id k x y h = elim (cases_eq id k) [
   | inl e ↦ absurd (none-some y (sym (cond-true (id == k) None (at k) (eq-eqb id k e)) ∙ h))

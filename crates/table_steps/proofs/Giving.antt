@@ -1,4 +1,4 @@
--- What is kept of a table when a request gives an entry, and pins its node.
+-- The invariants of a table when a request gives an entry and pins its node.
 use Rattle.std.proofs.Common.{ℕ, ◌+◌, ◌<◌, ◌≤◌, ◌≡◌, ◌==◌, ◌||◌, Bool, List, [], ◌∷◌, Some, Contains, refl, sym, ap, ◌∙◌, subst, inl, inr, arith}
 use Rattle.std.proofs.lemmas.Bool.{cond-true, eq-eqb, or_cases, or_left, eqb-true}
 use Rattle.std.proofs.lemmas.Option.{same_Some}
@@ -31,7 +31,7 @@ module _ (s : State) (id : ℕ) (key : Key) (may : MayEnter s id (key ∷ [])) w
   mine : Contains (key ∷ []) key
   mine = first_in key []
 
-  -- where no node stands at the name, one was promised
+  -- if the name has no node, one was promised
   pub room_to_create : IsFree (at_in s.tree) key.parent key.name → (0 < s.tree.room) × (0 < s.ledger.places)
   room_to_create free = elim may.births [
     | inl one ↦ (omega (arith, one, may.room.nodes), omega (arith, one, may.room.births))
@@ -127,7 +127,7 @@ module _ (s : State) (id : ℕ) (key : Key) (may : MayEnter s id (key ∷ [])) w
         subst (λ (r : Recorded). EntersName (world_of s) id (flight_of r) key g (world_of (record s { tree = tree; ledger = ledger; flights = flights; counts = s.counts + 1 })))
         (same_Some may.flight f (sym may.here ∙ here)) enters_one
 
-    -- the names that are left may be filled still
+    -- the remaining names may still be filled
     pub give_more : (rest : List Key) → MayFill s id (key ∷ rest) → MayFill (record s { tree = tree; ledger = ledger; flights = flights; counts = s.counts + 1 }) id rest
     give_more rest fill =
         let more = entered.more_is in

@@ -1,4 +1,5 @@
--- What one request holds exclusively is no prefix of a path whose prefixes another holds, so that its changes leave that path.
+-- What one request holds exclusively is not a prefix of a path whose prefixes another holds, so its changes do not
+-- affect that path.
 use Rattle.std.proofs.Common.{ℕ, zero, suc, ◌+◌, ◌≡◌, ◌≢◌, Bool, true, false, List, [], ◌∷◌, ◌++◌, Option, Some, None, Contains, reverse, refl, sym, ap, ◌∙◌, subst, inl, inr}
 use Rattle.std.specs.List.{slice_get}
 use Rattle.std.proofs.lemmas.Bool.{cases_Bool}
@@ -33,7 +34,7 @@ use Rattle.table_steps.proofs.Following.{path_follows}
 use Rattle.table_steps.proofs.Landing.{cut_from, exchanged_from, followed_from, marks_keep, moved_from, stands_kept}
 use Rattle.table_steps.proofs.Staying.{KeepsPaths, paths_kept, ready_kept}
 
--- ---- acts change no names but those that their footprints hold exclusively
+-- ---- acts change no names except those that their footprints hold exclusively
 
 pub candidate_in : (ls : List Location) (i : ℕ) (l : Location) → slice_get ls i ≡ Some l → Contains ls l
 candidate_in [] i l e = absurd (none-some l e)
@@ -86,7 +87,7 @@ path_after_mark before old new l (none_there none same) n q h = subst (λ (at : 
 path_after_mark before old new l (one_there m x there here same) n q h =
     subst (λ (at : Lookup). IsPathOf at n q) (sym same) (reaches_named old _ (named_written old m x (record x { hidden = true }) here refl) n (reverse q) h)
 
--- nothing is in the way of these paths, so none of them is a prefix of a path whose prefixes another holds
+-- there is no conflict with these paths, so none of them is a prefix of a path whose prefixes another request holds
 guard : (flights : RequestsInFlight) (held : Held) (p : Names) → (HoldsUp flights held → ⊥) → Contains held.exclusive p → p ≢ []
     → (id : ℕ) (f : RequestInFlight) (work : Work) → IsAtWork flights id f work → (q : Names) → HoldsPrefixes work.held q → is_prefix p q ≡ false
 guard flights held p clear own some id f work here q prefixes = elim (cases_Bool (is_prefix p q)) [
@@ -98,7 +99,7 @@ pub not_empty : (p : Names) (name : List ℕ) → p ++ name ∷ [] ≢ []
 not_empty [] name e = cc
 not_empty (x ∷ p) name e = cc
 
--- the path of a location other than the root is not empty
+-- the path of a location other than the root's is not empty
 pub path_some : (at : Lookup) (l : Location) (exclusive : List Location) → IsPlaced exclusive → Contains exclusive l → (p : Names) → HasPath at l p → p ≢ []
 path_some at (AtNode n) exclusive placed among p leads e =
     let one : n ≡ 1 = subst (λ r. IsPathOf at n r) e leads in
@@ -139,7 +140,7 @@ module _ (old : Lookup) (flights : RequestsInFlight) (d : Footprint) (held : Hel
   follows_to hidden new c p t false beside same n w h = (w, subst (λ (at : Lookup). Stands at n w) (sym same) h, λ e. e)
   follows_to hidden new c p t true beside changes n w h = (after_follow c p t w, changes.moved n w h, followed_from c p t q beside w)
 
-  -- where each node comes to stand: one that comes to that path stood there
+  -- a node that is at that path afterwards was there before
   pub lands : (change : Change) (new : Lookup) → AreOwn d.exclusive change → Alters old change new → (n : ℕ) (w : Where) → Stands old n w → (v : Where) × Stands new n v × (v ≡ at_path q → w ≡ at_path q)
   lands stays new own same n w h = (w, subst (λ (at : Lookup). Stands at n w) (sym same) h, λ e. e)
   lands (cuts l) new own it n w h = (after_cut it.path w, it.changes.moved n w h, cut_from it.path q w)
@@ -152,7 +153,7 @@ module _ (old : Lookup) (flights : RequestsInFlight) (d : Footprint) (held : Hel
       let on = follows_to it.hidden new it.hides.moves.new_path it.path it.new_path moved (apart t own.1 it.new_path it.new_leads) it.follows n hid.0 hid.1 in
       (on.0, on.1, λ e. hid.2 (on.2 e))
 
--- where all its paths stay, a request is left
+-- if all its paths are unaffected, so is the request
 pub left_where : (old new : Lookup) (flights : RequestsInFlight) → IsTree new → ((id : ℕ) (f : RequestInFlight) (work : Work) → IsAtWork flights id f work → KeepsPaths old new f.pins work.held) → LeavesWork old new flights
 left_where old new flights tree' keeps = record {
   ready = λ id f work here ready. ready_kept old new tree' f work (keeps id f work here) ready;

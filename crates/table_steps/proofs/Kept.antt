@@ -1,4 +1,4 @@
--- What is kept of a table when its nodes and its ledger change, and the requests in flight do not.
+-- The invariants of a table when its nodes and its ledger change, and the requests in flight do not.
 use Rattle.std.proofs.Common.{ℕ, ◌+◌, ◌-◌, ◌≤◌, ◌≡◌, ◌≢◌, List, [], ◌∷◌, ◌++◌, Some, length, length-append, min, reverse, refl, sym, ap, ◌∙◌, subst, arith}
 use Rattle.std.proofs.lemmas.Option.{none-some, same_Some}
 use Rattle.paths.specs.Prefixes.{Names}
@@ -34,7 +34,7 @@ use Rattle.table_steps.proofs.Lawful.{booked_of, booked_forget, lawful_swept}
 use Rattle.table_steps.proofs.Reasons.{HaveReasons-none, HaveReasons-some, HaveReasons-write}
 use Rattle.table_steps.proofs.Viewed.{are_kept}
 
--- one posting more
+-- one more posting
 pub record PostsOne (ps qs : Periods) (counted : Totals) : Type 0 where
   pub count : length qs.last ≡ length ps.last + 1
   pub entries : (totals_over qs).entries ≡ (totals_over ps).entries + counted.entries
@@ -49,7 +49,7 @@ posts_one ps qs p e =
       births = ap (λ (t : Totals). t.born) totals;
     }
 
--- births and entries are as they were, and no posting went
+-- births and entries are unchanged, and no posting was removed
 pub record IsSameTotals (old new : Periods) : Type 0 where
   pub grows : length old.last ≤ length new.last
   pub entries : (totals_over new).entries ≡ (totals_over old).entries
@@ -58,7 +58,7 @@ pub record IsSameTotals (old new : Periods) : Type 0 where
 pub totals_same : (ps : Periods) → IsSameTotals ps ps
 totals_same ps = record { grows = omega arith; entries = refl; births = refl }
 
--- what a write leaves of a tree
+-- what a write preserves of a tree
 pub record IsWritten (old new : Nodes) : Type 0 where
   pub living : new.living ≡ old.living
   pub limit : new.limit ≡ old.limit
@@ -73,7 +73,7 @@ written old new n x y w = record {
 
 -- ---- what requests rely on
 
--- each path leads where it led
+-- each path leads to the same node as before
 abbrev pub KeepsAllPaths : Lookup → Lookup → Type 0
 KeepsAllPaths old new = (n : ℕ) (q : Names) → IsPathOf old n q → IsPathOf new n q
 
@@ -86,7 +86,7 @@ pub ready_swept : (old new : Lookup) (flights : InFlight) (files : Filing) → A
 ready_swept old new flights files flying filed tree swept ready id f work here =
     (sweeps_harmless (flights_in (requests_of flights)) (files_of files).at old new (kept_by flights files) tree (are_kept flights files flying filed) swept).ready id f work here (ready id f work here)
 
--- the paths given stay known to who has what it relies on
+-- the recorded paths remain known for a request that has what it relies on
 pub held_ready : (old new : Lookup) (flights : RequestsInFlight) → AreReady new flights → AreHeld old flights → AreHeld new flights
 held_ready old new flights ready held = record {
   apart = held.apart;
@@ -96,13 +96,13 @@ held_ready old new flights ready held = record {
   };
 }
 
--- a count moves no node
+-- a change of count moves no node
 pub paths_written : (at : Lookup) (n : ℕ) (x : Node) (c : ℕ) → at n ≡ Some x → KeepsAllPaths at (with_node at n (record x { count = c }))
 paths_written at n x c stood m q h = reaches_now at n x (record x { count = c }) stood (record { number = refl; generation = refl; place = refl }) 1 (reverse q) m h
 
 -- ---- nodes and ledger change
 
--- nodes and ledger may change where the law stays, requests that go on have what they rely on, and there is room
+-- nodes and ledger may change if the law is maintained, requests in progress have what they rely on, and there is room
 pub kept_changed : (s : State) (tree : Nodes) (ledger : Postings) (counts : ℕ) → IsKept s
     → IsUpheld (at_in tree) ledger.made (kept_by s.flights s.files) → AreReady (at_in tree) (flights_in (requests_of s.flights)) → HaveNodes (at_in tree) (files_of s.files).at
     → s.tree.room ≤ tree.room → tree.living ≤ s.tree.living → tree.limit ≡ s.tree.limit

@@ -1,4 +1,4 @@
--- A node that is not cut keeps its hidden mark, whatever change of names comes about.
+-- A node that is not cut keeps its hidden mark under any change of names.
 use Rattle.std.proofs.Common.{ℕ, ◌≡◌, Bool, true, false, Some, if◌then◌else◌, refl, sym, ap, ◌∙◌, subst}
 use Rattle.std.proofs.lemmas.Option.{same_Some}
 use Rattle.paths.specs.Prefixes.{Names}
@@ -12,7 +12,7 @@ use Rattle.table_steps.specs.Steps.{Alters, Follows, Hides, Replaces, after_foll
 use Rattle.table_steps.proofs.Following.{leads_on}
 use Rattle.table_steps.proofs.Landing.{marks_keep}
 
--- the node under the number is marked still, unless it is cut now
+-- the node is still marked, unless it is cut now
 abbrev pub KeepsMark : Lookup → Lookup → ℕ → Type 0
 KeepsMark old new n = (x : Node) → old n ≡ Some x → x.hidden ≡ true → (z : Node) → new n ≡ Some z → (z.place ≡ Cut → ⊥) → z.hidden ≡ true
 
@@ -25,7 +25,7 @@ mark_changed f old new n changes x here marked z here' whole =
     let same : it.0 ≡ z = same_Some it.0 z (sym it.1 ∙ here') in
     ap (λ (y : Node). y.hidden) (sym same) ∙ (changed_mark x it.0 it.2 (λ e. whole (ap (λ (y : Node). y.place) (sym same) ∙ e)) ∙ marked)
 
--- who is not cut now was not cut before
+-- a node that is not cut now was not cut before
 uncut_before : (f : Where → Where) (old new : Lookup) (n : ℕ) → Changes f old new → f cut ≡ cut → (x : Node) → old n ≡ Some x → (z : Node) → new n ≡ Some z → (z.place ≡ Cut → ⊥) → x.place ≡ Cut → ⊥
 uncut_before f old new n changes fixed x here z here' whole lost =
     let s = subst (λ (w : Where). Stands new n w) fixed (changes.moved n cut (x, here, lost)) in

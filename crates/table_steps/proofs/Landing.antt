@@ -1,4 +1,5 @@
--- Where a step takes what stands: who comes to a path that nothing leads to stood there before.
+-- Where a step moves nodes: a node that is at a path afterwards was there before, if the target of the change is not a
+-- prefix of that path.
 use Rattle.std.proofs.Common.{ℕ, ◌&&◌, ◌≡◌, Bool, true, false, List, [], ◌∷◌, ◌++◌, ◌+◌, ◌-◌, ◌⊎◌, if◌then◌else◌, Option, Some, None, drop, length, reverse, refl, sym, ap, ◌∙◌, subst, inl, inr}
 use Rattle.std.proofs.lemmas.Bool.{cases_Bool, cases_eq, cond-false, cond-true, true≢false}
 use Rattle.std.proofs.lemmas.Option.{none-some, same_Some}
@@ -31,7 +32,7 @@ abbrev path_in : Where → Names
 path_in (at_path p) = p
 path_in cut = []
 
--- a path that goes on from t begins with t
+-- a longer path with the prefix t begins with t
 begins_on : (t more q : Names) → at_path (t ++ more) ≡ at_path q → is_prefix t q ≡ true
 begins_on t more q e = subst (λ (r : Names). is_prefix t r ≡ true) (ap path_in e) (is_prefix-append t more)
 
@@ -147,18 +148,18 @@ pub stands_kept : (old new : Lookup) → KeepsPlaces old new → (n : ℕ) (w : 
 stands_kept old new keeps n (at_path q) h = reaches_kept old new keeps n (reverse q) h
 stands_kept old new keeps n cut h = let it = keeps.place n h.0 h.1 in (it.0, it.1, it.2 ∙ h.2)
 
--- ---- where a node stands
+-- ---- where a node is
 
 stood_at : (at : Lookup) → IsTree at → (n : ℕ) (x : Node) → at n ≡ Some x → (p : Place) → x.place ≡ p → (w : Where) × Stands at n w
 stood_at at tree n x here Root e = (at_path [], tree.only_root n x here e)
 stood_at at tree n x here (Named key) e = let it = path_of_lead at n (tree.reached n key.parent key.name (x, here, e)) in (at_path it.0, it.1)
 stood_at at tree n x here Cut e = (cut, (x, here, e))
 
--- a node that lives stands somewhere
+-- a living node is somewhere
 pub somewhere : (at : Lookup) → IsTree at → (n : ℕ) (x : Node) → at n ≡ Some x → (w : Where) × Stands at n w
 somewhere at tree n x here = stood_at at tree n x here x.place refl
 
--- what a sweep leaves stood there before
+-- what remains after a sweep was there before
 reaches_back : (mid new : Lookup) → ((n : ℕ) (x : Node) → new n ≡ Some x → mid n ≡ Some x) → (n : ℕ) (way : Names) → Reaches new 1 n way → Reaches mid 1 n way
 reaches_back mid new kept n [] h = h
 reaches_back mid new kept n (name ∷ way) (p, named, rest) = (p, (named.0, kept n named.0 named.1, named.2), reaches_back mid new kept p way rest)

@@ -1,4 +1,4 @@
--- The law after each change of a node that a posting goes with.
+-- The law after each change of a node together with its posting.
 use Rattle.std.proofs.Common.{ℕ, ◌+◌, ◌-◌, ◌<◌, ◌≤◌, ◌≡◌, ◌≢◌, Bool, true, false, List, [], ◌∷◌, ◌++◌, Some, None, Contains, refl, sym, ap, ◌∙◌, subst, inl, arith}
 use Rattle.std.proofs.lemmas.Option.{none-some, same_Some}
 use Rattle.ledger.specs.Periods.{Periods, posted}
@@ -17,7 +17,7 @@ use Rattle.table_steps.specs.Upheld.{IsBooked}
 use Rattle.table_steps.proofs.Booked.{IsBooked-post, IsBooked-born, IsBooked-swept, IsBooked-pins}
 use Rattle.table_steps.proofs.Reasons.{HaveReasons-none, HaveReasons-some, HaveReasons-write, HaveReasons-born, HaveReasons-all, HaveReasons-pins}
 
--- the law is the tree, what is booked, and the reasons
+-- the law consists of the tree, the bookkeeping and the reasons
 pub booked_of : (at : Lookup) (ps : Periods) (pinned : ℕ → Bool) → IsUpheld at ps pinned → IsBooked at ps pinned
 booked_of at ps pinned law = law.booked
 
@@ -37,7 +37,7 @@ law_of at ps pinned law = record {
   reasons = law.reasons;
 }
 
--- what a sweep leaves is lawful again
+-- what remains after a sweep is lawful again
 pub lawful_swept : (old new : Lookup) (ps : Periods) (pinned : ℕ → Bool) → IsBooked old ps pinned → IsSwept pinned old new → IsPruned new pinned [] → IsUpheld new ps pinned
 lawful_swept old new ps pinned booked swept pruned =
     lawful_from new ps pinned pruned.tree (IsBooked-swept old new ps pinned swept booked) (HaveReasons-none new pinned pruned.reasons)
@@ -49,7 +49,7 @@ module _ (at : Lookup) (ps : Periods) (pinned : ℕ → Bool) (booked : IsBooked
       let plain = booked.root.plain x (ap at (sym e) ∙ stood) in
       omega (arith, plain.1)
 
-  -- the life of a node was begun
+  -- a node was born or carried over
   pub was_begun : n ≢ 1 → IsBegun ps n x.generation
   was_begun not_root = booked.begun n x stood not_root
 
@@ -74,7 +74,7 @@ module _ (at : Lookup) (ps : Periods) (pinned : ℕ → Bool) (booked : IsBooked
   booked_entry not_root =
       IsBooked-post at ps pinned n x (x.count + 1) (Entry n x.generation) 1 0 stood not_root (touches_entry n x.generation) booked (omega arith) tt (was_begun not_root)
 
--- a node that is named is not the root
+-- a node with a name is not the root
 pub named_not_root : (at : Lookup) (n p : ℕ) (name : List ℕ) → IsTree at → IsNamed at n p name → n ≢ 1
 named_not_root at n p name tree named e =
     let r = tree.rooted in
@@ -86,7 +86,7 @@ named_not_root at n p name tree named e =
 pub fresh_not_root : (at : Lookup) (n : ℕ) → IsTree at → at n ≡ None → n ≢ 1
 fresh_not_root at n tree fresh e = none-some tree.rooted.node (sym fresh ∙ (ap at e ∙ tree.rooted.here))
 
--- a node that was given one more entry has a reason, and all others keep theirs
+-- a node with one more entry has a reason, and all others keep theirs
 pub reasons_entry : (at : Lookup) (pinned : ℕ → Bool) (n : ℕ) (x : Node) → at n ≡ Some x → HaveReasons at pinned → HaveReasons (with_node at n (record x { count = x.count + 1 })) pinned
 reasons_entry at pinned n x stood reasons =
     let y : Node = record x { count = x.count + 1 } in
@@ -94,14 +94,14 @@ reasons_entry at pinned n x stood reasons =
     (λ z h not_root. inl (let same : y ≡ z = same_Some y z (sym (with_same at n y) ∙ h) in let P : Node → Type 0 = λ w. 0 < w.count in subst P same (omega arith)))
     (HaveReasons-write at pinned n x y [] stood refl (HaveReasons-some at pinned [] reasons)))
 
--- a node is given one more entry
+-- a node gets one more entry
 pub lawful_entry : (at : Lookup) (ps : Periods) (pinned : ℕ → Bool) (n p : ℕ) (name : List ℕ) (x : Node) → IsUpheld at ps pinned → at n ≡ Some x → x.place ≡ Named (record { parent = p; name = name }) → IsTree (with_node at n (record x { count = x.count + 1 })) → IsUpheld (with_node at n (record x { count = x.count + 1 })) (posted ps (Entry n x.generation)) pinned
 lawful_entry at ps pinned n p name x law stood place tree =
     lawful_from (with_node at n (record x { count = x.count + 1 })) (posted ps (Entry n x.generation)) pinned tree
     (booked_entry at ps pinned (booked_of at ps pinned law) n x stood (named_not_root at n p name law.tree (x, stood, place)))
     (reasons_entry at pinned n x stood law.reasons)
 
--- a node is born and given its first entry
+-- a node is born and gets its first entry
 pub lawful_birth : (at : Lookup) (ps : Periods) (pinned : ℕ → Bool) (n : ℕ) (y : Node) → IsUpheld at ps pinned → at n ≡ None → y.generation ≡ births_of n ps → y.count ≡ 0 → y.hidden ≡ false → IsTree (with_node at n y) → IsTree (with_node (with_node at n y) n (record y { count = y.count + 1 }))
     → IsUpheld (with_node (with_node at n y) n (record y { count = y.count + 1 })) (posted (posted ps (Born n y.generation)) (Entry n y.generation)) pinned
 lawful_birth at ps pinned n y law fresh gen zero_count unmarked tree tree' =
@@ -118,7 +118,7 @@ lawful_birth at ps pinned n y law fresh gen zero_count unmarked tree tree' =
     (λ w h root. inl (let same : z ≡ w = same_Some z w (sym (with_same one n z) ∙ h) in let P : Node → Type 0 = λ v. 0 < v.count in subst P same (omega arith)))
     (HaveReasons-write one pinned n y z (n ∷ []) stood refl (HaveReasons-born at pinned n y [] fresh (HaveReasons-some at pinned [] law.reasons))))))
 
--- more numbers are pinned, all of them alive
+-- more numbers are pinned, all with living nodes
 pub lawful_pins : (at : Lookup) (ps : Periods) (old new : ℕ → Bool) → IsUpheld at ps old → ((m : ℕ) → old m ≡ true → new m ≡ true) → AreAlive at new → IsUpheld at ps new
 lawful_pins at ps old new law more pins =
     lawful_from at ps new law.tree (IsBooked-pins at ps old new pins (booked_of at ps old law)) (HaveReasons-none at new (HaveReasons-pins at old new [] more (HaveReasons-some at old [] law.reasons)))

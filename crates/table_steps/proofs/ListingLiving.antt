@@ -1,4 +1,4 @@
--- The nodes but the root, listed by rising number.
+-- All nodes except the root, sorted by number.
 use Rattle.std.proofs.Common.{ℕ, ◌+◌, ◌<◌, ◌≤◌, ◌≡◌, List, [], ◌∷◌, ◌++◌, Some, None, All, AllPairs, Contains, length, get_or, refl, sym, ap, ◌∙◌, subst, inl, inr, arith}
 use Rattle.std.proofs.lemmas.Bool.{cases_eq, cases_lt}
 use Rattle.std.proofs.lemmas.List.Elements.{All-push, All-weaker, Contains-append_left, Contains-push}
@@ -38,7 +38,7 @@ module _ (at : Lookup) (last next g : ℕ) (pairs : List (ℕ × ℕ)) (first : 
     all = reached;
   }
 
--- no node bears 0, so these are all
+-- no node has number 0, so these are all
 pub living_all : (at : Lookup) (last : ℕ) (pairs : List (ℕ × ℕ)) → at 0 ≡ None → ((n : ℕ) → IsAlive at n → n ≤ last) → AreLivingUpTo at last pairs → AreLiving at pairs
 living_all at last pairs none above all = record {
   last = last;

@@ -1,4 +1,4 @@
--- A name that is hidden: what stands there is moved to a name beside it, and marked.
+-- Hiding a name: what is there is moved to another name in the same folder and marked.
 use Rattle.std.proofs.Common.{Bool, ℕ, ℤ, ◌≡◌, [], ◌∷◌, ◌++◌, true, length-append, Option, Some, None, refl, sym, ap, ◌∙◌, subst, inl, inr, arith}
 use Rattle.std.specs.List.{slice_get}
 use Rattle.std.proofs.lemmas.Bool.{cases_eq}
@@ -26,7 +26,7 @@ use Rattle.table_steps.proofs.Guarding.{candidate_in, hiding_own, replacing_own}
 use Rattle.table_steps.proofs.Reasons.{child_written}
 use Rattle.table_steps.proofs.Rooted.{is_row, may_alter}
 
--- ---- beside each other
+-- ---- names in the same folder
 
 -- two names under one node: neither path is a proper prefix of the other
 short : (up : Names) (a b : Name) → IsProperPrefix (up ++ a ∷ []) (up ++ b ∷ []) → ⊥
@@ -56,7 +56,7 @@ hiding_placed at tree (hides l c) o beside e bad = bad
 hiding_placed at tree (replaces s t c moved) o beside e bad = bad
 hiding_placed at tree (exchanges s t) o beside e bad = bad
 
--- what a request that ends may hide
+-- what a request may hide at its end
 pub may_hide : (s : State) (id : ℕ) (work : RecordedWork) → IsKept s → IsEnding s id work → (i : ℕ) → MayAlter s (hiding_at (footprint_in work).done (slice_get (footprint_in work).candidates i))
 may_hide s id work kept e i =
     let d = footprint_in work in
@@ -104,7 +104,7 @@ may_replace s id work kept e i moved =
 
 -- ---- a mark
 
--- who has a child has it still
+-- a node with a child still has it
 children_marked : (old mid : Lookup) (n : ℕ) (x : Node) (but : ℕ → Type 0) → mid n ≡ Some x → KeepsChildren old but mid → KeepsChildren old but (with_node mid n (record x { hidden = true }))
 children_marked old mid n x but here keeps =
     let y = record x { hidden = true } in

@@ -1,4 +1,4 @@
--- Which nodes a change of names lists as newly cut.
+-- Which nodes a change of names puts into the list of newly cut ones.
 use Rattle.std.proofs.Common.{ℕ, ◌≡◌, List, [], ◌∷◌, ◌++◌, if◌then◌else◌, Some, Contains, length, drop, refl, sym, ap, ◌∙◌, subst, ◌⊎◌, inl, inr}
 use Rattle.std.proofs.lemmas.Bool.{cases_Bool, cond-true}
 use Rattle.std.proofs.lemmas.Option.{none-some, same_Some}
@@ -28,7 +28,7 @@ listed_then a b c first after = record {
   ];
 }
 
--- a place is that of a node that is cut, or not
+-- a place is that of a cut node, or is not
 is_cut : (pl : Place) → (pl ≡ Cut) ⊎ (pl ≡ Cut → ⊥)
 is_cut Root = inr (λ e. cc)
 is_cut (Named key) = inr (λ e. cc)
@@ -43,7 +43,7 @@ was_cut at n = elim (cases_option (at n)) [
   ]
 ]
 
--- what a tree says of a cut or a move
+-- what the tree says about a cut or a move
 pub listed_by : (old new : Nodes) → ListsCuts (at_in old) (at_in new) old.newly_cut new.newly_cut → AreListed old new
 listed_by old new lists = record {
   kept = λ n h. subst (λ (l : List ℕ). Contains l n) (sym lists.after_is) (Contains-append_left old.newly_cut lists.more n h);
@@ -53,7 +53,7 @@ listed_by old new lists = record {
   ];
 }
 
--- an exchange takes a path to a path
+-- an exchange maps a path to a path
 exchanged_path : (p q r : Names) → (s : Names) × (after_exchange p q (at_path r) ≡ at_path s)
 exchanged_path p q r = elim (cases_Bool (is_prefix p r)) [
   | inl prefix ↦ (q ++ drop (length p) r, cond-true (is_prefix p r) (at_path (q ++ drop (length p) r)) (if is_prefix q r then at_path (p ++ drop (length q) r) else at_path r) prefix)
@@ -89,7 +89,7 @@ listed_exchanged old new parent name new_parent new_name tree tree' it = record 
   cut = λ n h. inl (exchange_uncut (at_in old) (at_in new) tree tree' parent name new_parent new_name it.exchanges n h);
 }
 
--- a node is written that keeps its place
+-- a node is written and keeps its place
 pub listed_written : (old new : Nodes) (number : ℕ) (x y : Node) → at_in old number ≡ Some x → y.place ≡ x.place → Writes old number x y new → AreListed old new
 listed_written old new number x y stood place writes = record {
   kept = λ n h. subst (λ (l : List ℕ). Contains l n) (sym (ap (λ (t : Nodes). t.newly_cut) writes.rest)) h;
@@ -102,7 +102,7 @@ listed_written old new number x y stood place writes = record {
 pub cut_named : (pl : Place) (key : Key) → pl ≡ Cut → pl ≡ Named key → ⊥
 cut_named pl key e f = let bad : Cut ≡ Named key = sym e ∙ f in cc
 
--- what is cut has no child
+-- a cut node has no child
 pub cut_childless : (at : Lookup) → IsTree at → (n : ℕ) (x : Node) → at n ≡ Some x → x.place ≡ Cut → HasChild at n → ⊥
 cut_childless at tree n x stood lost child =
     let leads = parent_leads at tree child.0 n child.1 child.2 in

@@ -31,14 +31,14 @@ use Rattle.std.proofs.lemmas.Bool.Decides.{Decides-eqb}
 use Rattle.std.proofs.lemmas.Map.Made.{IsDistinct-from_AllPairs, is_member-Decides, length-le_from_is_member}
 
 module _ (at : Lookup) (pairs : List (ℕ × ℕ)) (living : AreLiving at pairs) where
-  -- each number once
+  -- each number comes once
   pub living_once : AllPairs (λ (a b : ℕ × ℕ). a ≢ b) pairs
   living_once i j d before within same =
       let less = living.up_to.rising i j d before within in
       let e = ap (λ (b : ℕ × ℕ). b.0) same in
       omega (arith, less, e)
 
-  -- all nodes but the root
+  -- all nodes except the root
   pub living_there : (n : ℕ) (x : Node) → at n ≡ Some x → n ≢ 1 → Contains pairs (n, x.generation)
   living_there n x here other =
       let within = living.no_more n x here in
@@ -51,7 +51,7 @@ module _ (at : Lookup) (pairs : List (ℕ × ℕ)) (living : AreLiving at pairs)
   pub root_absent : (g : ℕ) → Contains pairs (1, g) → ⊥
   root_absent g there = let it = living_node 1 g there in omega (arith, it.not_root)
 
--- ---- how many they are
+-- ---- how many there are
 
 abbrev number_in : ℕ × ℕ → ℕ
 number_in a = a.0
@@ -121,7 +121,7 @@ module _ (at : Lookup) (last : ℕ) (pairs : List (ℕ × ℕ)) (up_to : AreLivi
   is_alive : (k : ℕ) → Contains keys k → is_some (at k) ≡ true
   is_alive k there = let it = key_lives k there in ap (λ (o : Option Node). is_some o) it.1
 
-  -- no more than all nodes but the root
+  -- no more than all nodes except the root
   pub up_to_count : (total counts : ℕ) → IsCensus at total counts → length pairs + 1 ≤ total
   up_to_count total counts census =
       let all = census.living_is in
@@ -153,7 +153,7 @@ module _ (at : Lookup) (pairs : List (ℕ × ℕ)) (living : AreLiving at pairs)
         omega (arith, one, weigh_all at living.last pairs living.up_to.each, sum_by-cons (weight at) 1 (map number_in pairs));
   }
 
-  -- one for each node but the root
+  -- one for each node except the root
   pub living_count : (total counts : ℕ) → IsCensus at total counts → length pairs + 1 ≡ total
   living_count total counts census = sum_once at (λ (x : Node). 1) (length pairs + 1) total living_sum census.living_is
 
@@ -188,7 +188,7 @@ module _ (at : Lookup) (old : Periods) (kept : ℕ → Bool) (pairs : List (ℕ 
       let left : it.node.count ≡ count_of a.0 a.1 old = subst (λ (g : ℕ). it.node.count ≡ count_of a.0 g old) it.generation (omega (arith, was)) in
       ap (λ (k : ℕ). Opening a.0 a.1 k ∷ map (opening_at at) rest) (count ∙ left) ∙ ap (λ (ps : List Posting). opening_of old a ∷ ps) (opened_where rest (All-tail (IsLivingUpTo at living.last) a rest each))
 
-  -- the nodes have what is left
+  -- the openings have what was left of the nodes
   pub opened_same : map (opening_at at) pairs ≡ map (opening_of old) pairs
   opened_same = opened_where pairs living.up_to.each
 
@@ -213,7 +213,7 @@ module _ (at : Lookup) (old : Periods) (kept : ℕ → Bool) (pairs : List (ℕ 
     unborne_absent : (n g : ℕ) → ((x : Node) → at n ≡ Some x → x.generation ≢ g) → Contains pairs (n, g) → ⊥
     unborne_absent n g unborne there = let it = living_node at pairs living n g there in unborne it.node it.here it.generation
 
-    -- ---- the order of what it begins with
+    -- ---- the order of the openings
 
     abbrev opened : List Posting
     opened = map (opening_of old) pairs
@@ -286,7 +286,7 @@ module _ (at : Lookup) (old : Periods) (kept : ℕ → Bool) (pairs : List (ℕ 
       reasons = law.reasons;
     }
 
-    -- ---- what it begins with, as contracts say it
+    -- ---- the openings as contracts see them
 
     opening_is : (p : Posting) → Contains new.last p → IsOpeningOf at p
     opening_is p there =

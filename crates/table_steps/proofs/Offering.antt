@@ -1,4 +1,4 @@
--- What an outcome opens: that it may, and what the end of a request is with it.
+-- Which file an outcome opens: that it may be opened, and the end of a request with it.
 use Rattle.std.proofs.Common.{ℕ, ◌+◌, ◌≡◌, ◌==◌, if◌then◌else◌, Bool, true, false, List, [], ◌∷◌, Contains, Option, Some, None, length, refl, sym, ap, ◌∙◌, subst, ◌⊎◌, inl, inr, arith}
 use Rattle.std.specs.Prelude.{is_some, option_map}
 use Rattle.std.proofs.lemmas.Bool.{cond-true, eq-eqb}
@@ -102,7 +102,7 @@ module _ (s : State) (id : ℕ) (work : RecordedWork) (kept : IsKept s) (e : IsE
   may_given new files limits promised (opens.Entry access) (Page keys) given None is it ended = tt
   may_given new files limits promised (opens.Entry access) (Page keys) given (Some g) is it ended = absurd (none-some g (sym it))
 
--- ---- the end with it
+-- ---- the end with a file
 
 cases_file : (o : Option OpenFile) → (o ≡ None) ⊎ ((file : OpenFile) × (o ≡ Some file))
 cases_file None = inl refl
@@ -114,7 +114,7 @@ filed_fresh all filed = elim (cases_file (all.at (all.last + 1))) [
   | inr (file, here) ↦ let it = filed.given (all.last + 1) file here in absurd (let most = it.1 in omega arith)
 ]
 
--- who gave has ended still
+-- a request that gave something has still ended
 pub ended_gave : (s new : State) (id : ℕ) (x : Recorded) (keys : List Key) (found : List Bool) (given : List (Option Given)) → is_working x.stage ≡ false → GivesAll (world_of s) id (flight_of x) keys found given (world_of new) → HasEnded new id
 ended_gave s new id x keys found given idle gives =
     let there : (world_of new).flights id ≡ Some (giving (flight_of x) given) =
@@ -122,7 +122,7 @@ ended_gave s new id x keys found given idle gives =
     let it = found_in ((requests_of new.flights).at id) (giving (flight_of x) given) there in
     record { flight = it.0; here = it.1; ended = ended_recorded it.0.stage (ap (λ (f : RequestInFlight). has_ended f.stage) it.2 ∙ ended_seen x.stage idle) }
 
--- what the world sees of a file that is noted
+-- how the world sees a file that is noted
 abbrev with_noted : Stage → ℕ → Stage
 with_noted (Working work) handle = Working work
 with_noted (Answered before opened) handle = Answered before (Some handle)
@@ -177,7 +177,7 @@ module _ (old : World) (id : ℕ) (f : RequestInFlight) (mid new : State) (kept 
   ends_alone act keys answer e none unopened (opens.Node number access) it = one act keys answer e none (record { target = AtNode number; access = access }) number refl it.0 it.1
   ends_alone act keys answer e none unopened (opens.Entry access) it = base act keys answer e none unopened it.0 it.1
 
-  -- the node that an entry was given of is named so
+  -- the node whose entry was given has this name
   named : (at new_at : Lookup) (ps qs : Periods) (parent : ℕ) (name : List ℕ) (g : Given) → Enters at ps parent name g new_at qs → IsNamed new_at g.number parent name
   named at new_at ps qs parent name g (inl again) = (record again.node { count = again.node.count + 1 }, ap (λ (l : Lookup). l g.number) again.nodes ∙ with_same at g.number (record again.node { count = again.node.count + 1 }), again.named)
   named at new_at ps qs parent name g (inr born) = (newborn g parent name, ap (λ (l : Lookup). l g.number) born.nodes ∙ with_same at g.number (newborn g parent name), refl)
@@ -185,7 +185,7 @@ module _ (old : World) (id : ℕ) (f : RequestInFlight) (mid new : State) (kept 
   named_all : (owners : RequestsInFlight) (at new_at : Lookup) (ps qs : Periods) (key : Key) (g : Given) → EntersAll owners at ps (key ∷ []) (true ∷ []) (Some g ∷ []) new_at qs → IsNamed new_at g.number key.parent key.name
   named_all owners at new_at ps qs key g (free, (m, rs, enters, same)) = subst (λ (l : Lookup). IsNamed l g.number key.parent key.name) (sym same.0) (named at m ps rs key.parent key.name g enters)
 
-  -- what is opened with the one name
+  -- the file that is opened with the only name
   abbrev entering : Entered → Option Opening → Act
   entering entries o = record { found = one_found (is_page entries) (keys_in entries); change = stays; opens = o }
 

@@ -1,4 +1,4 @@
--- What a file that is closed leaves.
+-- The result of closing a file.
 use Rattle.std.proofs.Common.{ℕ, ◌≡◌, true, [], Option, Some, sym, ap, ◌∙◌, subst, arith}
 use Rattle.table_files.specs.OpenEntry.{Filing, files_of}
 use Rattle.table_files.specs.Handles.{Files}

@@ -1,4 +1,4 @@
--- A file is opened: what is kept, and what the end of a request is with it.
+-- Opening a file: the invariants, and the end of a request with it.
 use Rattle.std.proofs.Common.{ℕ, ◌+◌, ◌≡◌, ◌==◌, ◌||◌, Bool, true, false, Option, Some, None, refl, sym, ap, ◌∙◌, subst, inl, inr, arith, ◌≤◌}
 use Rattle.std.proofs.lemmas.Bool.{cases_Bool, cases_eq, cond-false, cond-true, eq-eqb, eqb-true, ne_eqb, or_cases, or_left, or_right, true≢false}
 use Rattle.std.proofs.lemmas.Option.{none-some, same_Some}
@@ -34,7 +34,7 @@ use Rattle.table_steps.proofs.Reasons.{reasons_kept}
 use Rattle.table_steps.proofs.Viewed.{IsFewer, fewer_held, fewer_idle, fewer_provided, fewer_ready}
 use Rattle.table_steps.proofs.Few.{few_with}
 
--- ---- one file more
+-- ---- one more file
 
 module _ (s : State) (files : Filing) (number : ℕ) (node : Node) (access : Access) (kept : IsKept s) (here : at_in s.tree number ≡ Some node) (room : HasFileRoom s)
     (is : files_of files ≡ after_open (files_of s.files) (record { number = number; generation = node.generation; access = access })) (filed : AreOpenEntries (files_of files)) where
@@ -95,7 +95,7 @@ module _ (s : State) (files : Filing) (number : ℕ) (node : Node) (access : Acc
     files = nodes;
   }
 
--- ---- who opened it notes it
+-- ---- the request that opened it notes it
 
 posted_noted : (st : Recording) (pins : List ℕ) (handle : ℕ) → most_posted (with_opened st handle) pins ≡ most_posted st pins
 posted_noted (recorded.Working work) pins handle = refl
@@ -144,7 +144,7 @@ module _ (s : State) (kept : IsKept s) (flights : InFlight) (id handle : ℕ) (x
     files = kept.files;
   }
 
--- the same pins under the id pin the same
+-- the same pins under the id pin the same numbers
 module _ (flights : RequestsInFlight) (id : ℕ) (x y : RequestInFlight) (here : flights id ≡ Some x) (same : y.pins ≡ x.pins) (n : ℕ) where
   pinned_forth : IsPinned flights n → IsPinned (with_entry flights id (Some y)) n
   pinned_forth p = elim (cases_eq id p.id) [

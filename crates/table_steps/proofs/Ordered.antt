@@ -1,4 +1,4 @@
--- That each posting may stand where it does, when one more is made.
+-- Each posting may still come where it does after one more was made.
 use Rattle.std.proofs.Common.{ℕ, ◌<◌, ◌≤◌, ◌≡◌, Bool, true, false, [], ◌∷◌, ◌++◌, length, get_or, take, inl, inr, refl, ap, length-append, arith}
 use Rattle.std.specs.Prelude.{nat_lt}
 use Rattle.std.proofs.lemmas.Bool.Decides.{nat_tests}
@@ -25,7 +25,7 @@ IsOrdered-empty = record { each = λ i d within. absurd (omega arith) }
 pub IsOrdered-push : (ps : Periods) (p : Posting) → IsOrdered ps → MayStand ps p → IsOrdered (posted ps p)
 IsOrdered-push ps p old may = record { each = λ i d within. stands_push ps p old may i d within (nat_lt i (length ps.last)) refl }
 
--- a life that was begun still is
+-- what had a birth or opening still has one
 pub begun_more : (ps : Periods) (p : Posting) (n g : ℕ) → IsBegun ps n g → IsBegun (posted ps p) n g
 begun_more ps p n g (inl born) = inl (Contains-append_left ps.last (p ∷ []) (Born n g) born)
 begun_more ps p n g (inr (k, opened)) = inr (k, Contains-append_left ps.last (p ∷ []) (Opening n g k) opened)

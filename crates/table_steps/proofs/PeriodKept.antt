@@ -1,4 +1,4 @@
--- What is kept of a table at the end of a period.
+-- The invariants of a table at the end of a period.
 use Rattle.std.proofs.Common.{ℕ, ◌+◌, ◌≤◌, ◌≡◌, List, length, refl, ap, ◌∙◌, arith, map, ◌≢◌, AllPairs, sym, subst}
 use Rattle.std.proofs.lemmas.List.{length-map}
 use Rattle.ledger.specs.declared.postings.Posting.{Posting}
@@ -22,7 +22,7 @@ module _ (s : State) (kept : IsKept s) (pairs : List (ℕ × ℕ)) (living : Are
   pub are_all_alive : AreAllAlive s.ledger.made pairs
   are_all_alive = all_alive (at_in s.tree) s.ledger.made (kept_by s.flights s.files) pairs kept.law living
 
-  -- what is left of all of them is what was left of all
+  -- what is left of all of them is all that was left
   pub all_left : (new : Periods) → new.totals ≡ totals_over s.ledger.made → new.last ≡ map (opening_at (at_in s.tree)) pairs → new.totals.backs + new.totals.forgotten + sum_by carried_by new.last ≡ new.totals.entries
   all_left new totals last =
       let law = kept.law in
@@ -34,7 +34,7 @@ module _ (s : State) (kept : IsKept s) (pairs : List (ℕ × ℕ)) (living : Are
         let root = kept.law.tree.rooted in
         living_count (at_in s.tree) pairs living (root.node, root.here) s.tree.living s.tree.counts census
 
-    -- each of them was begun by a posting
+    -- each of them has a birth or an opening
     pub few_living : length pairs ≤ length s.ledger.made.last
     few_living = omega (arith, count, kept.limited.begun)
 
@@ -89,7 +89,7 @@ module _ (s : State) (kept : IsKept s) (pairs : List (ℕ × ℕ)) (living : Are
             files = kept.files;
           }
 
--- the ledger was closed, and what is left was opened in it
+-- the ledger was closed, and what was left was opened in it
 module _ (s : State) (kept : IsKept s) (census : IsCensus (at_in s.tree) s.tree.living s.tree.counts) (was shut next : Postings) (was_is : was ≡ s.ledger)
     (births : (n : ℕ) → births_closed n shut.made.births ≡ births_of n was.made) (once : AllPairs (λ (b c : KeptBirths). b.number ≢ c.number) shut.made.births) (totals : shut.made.totals ≡ totals_over was.made)
     (limit : shut.limit ≡ was.limit) (room : shut.room ≡ was.room + length was.made.last) (places : shut.places ≡ was.places)

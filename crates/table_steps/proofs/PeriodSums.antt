@@ -1,4 +1,4 @@
--- The end of a period leaves births and totals as they were.
+-- The end of a period does not change births and totals.
 use Rattle.std.proofs.Common.{ℕ, ◌+◌, ◌≡◌, ◌≤◌, ◌*◌, ◌≢◌, inl, inr, List, Option, Some, None, All, Contains, cond, get_or, length, refl, sym, ap, ◌∙◌, subst, arith}
 use Rattle.std.specs.Prelude.{count_by, sum_by}
 use Rattle.std.proofs.lemmas.List.Elements.{Contains-get_or}
@@ -16,7 +16,7 @@ use Rattle.tree.specs.Places.{Lookup}
 use Rattle.table_steps.specs.Steps.{AreOpenings, ClosesPeriod}
 use Rattle.table_steps.specs.World.{IsLawfulWorld, World}
 
--- what no opening counts is nothing in all
+-- what no opening counts is nothing in total
 none_of : (at : Lookup) (ps : List Posting) (f : Posting → ℕ) → ((n g k : ℕ) → f (Opening n g k) ≡ 0) → AreOpenings at ps → sum_by f ps ≡ 0
 none_of at ps f none openings =
     let each : All (λ p. f p ≤ 0) ps = λ i d within.
@@ -41,7 +41,7 @@ period_births old new fewer n closes =
     let none : count_by (is_birth n) new.postings.last ≡ 0 = none_of old.at new.postings.last (λ p. cond (is_birth n p) 1 0) (λ m g k. refl) closes.openings in
     omega (arith, none, closes.births n)
 
--- each count is that of the node that bears the number with the generation, or nothing
+-- each count is that of the node with this number and generation, or nothing
 count_where : (old new : World) (n g : ℕ) → IsLawfulWorld old → IsLawfulWorld new → old.at ≡ new.at → (o : Option Node) → old.at n ≡ o → count_of n g new.postings ≡ count_of n g old.postings
 count_where old new n g before after same None none =
     let was = before.law.booked.counted.others n g (λ x here. absurd (none-some x (sym none ∙ here))) in

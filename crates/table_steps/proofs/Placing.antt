@@ -1,4 +1,4 @@
--- What a cut and a move at a name make of a tree.
+-- What a cut and a move at a name do to a tree.
 use Rattle.std.proofs.Common.{ℕ, ℤ, ◌&&◌, ◌≡◌, ◌≢◌, Some, true, false, [], ◌∷◌, ◌++◌, reverse, refl, sym, ap, ◌∙◌, subst, ◌⊎◌, inl, inr}
 use Rattle.std.proofs.lemmas.Bool.{cases_Bool, true≢false, and_parts}
 use Rattle.std.proofs.lemmas.List.{reverse-append}
@@ -21,7 +21,7 @@ use Rattle.table_footprints.specs.Asked.{HasPath, IsRefusedAt, IsRefusedMove}
 use Rattle.table_steps.specs.Steps as steps
 use Rattle.table_steps.proofs.Lawful.{named_not_root}
 
--- a node with a named child is alive
+-- a node with a child that has a name is alive
 way_alive : (at : Lookup) → IsTree at → (m c : ℕ) (name : Name) → IsNamed at c m name → (up : Names) → Reaches at 1 c up → IsAlive at m
 way_alive at tree m c name named [] way = absurd (root_unnamed at tree.rooted m name (subst (λ k. IsNamed at k m name) way named))
 way_alive at tree m c name named (x ∷ up) way =
@@ -61,7 +61,7 @@ cut_children old new tree number parent name named below = record {
   ];
 }
 
--- the node that is cut by its number is lost to the one that it is under
+-- when a node is cut by its number, its parent loses it
 pub cut_children_node : (old new : Lookup) → IsTree old → (number : ℕ) → CutsBelow old new number → KeepsChildren old (IsOver old (AtNode number)) new
 cut_children_node old new tree number below = record {
   child = λ n child. elim (child_after_cut old new number below n child) [
@@ -71,7 +71,7 @@ cut_children_node old new tree number below = record {
   ];
 }
 
--- a node that leads to the root is there, and is not cut
+-- a node that leads to the root exists and is not cut
 pub no_fault : (at : Lookup) → IsTree at → (number : ℕ) → Leads at number → (e : TreeFault) → IsFault at number e → ⊥
 no_fault at tree number way fault.Unknown bad = let it = climbs_alive at tree.rooted way.names number way.climb in none-some it.0 (sym bad ∙ it.1)
 no_fault at tree number way fault.Cut bad = way_or_cut at tree number way.names way.climb bad.0 bad.1 bad.2
@@ -107,7 +107,7 @@ module _ (at : Lookup) (tree : IsTree at) (key target : Key) (above new_above : 
     | inr none ↦ none
   ]
 
-  -- the new name leads to the old one only where they are one
+  -- the new name leads to the old one only if they are equal
   not_over : is_prefix new_path path ≡ true → path ≡ new_path
   not_over prefix = elim (cases_Bool (is_prefix path new_path)) [
     | inl back ↦ is_prefix-both path new_path back prefix
@@ -130,7 +130,7 @@ module _ (at : Lookup) (tree : IsTree at) (key target : Key) (above new_above : 
       ];
     }
 
--- ---- a move of a name that none bears
+-- ---- a move of a name without a node
 
 -- no path goes through a free name
 free_prefix : (at : Lookup) → IsTree at → (parent : ℕ) (up : Names) (name : Name) → IsPathOf at parent up → IsFree at parent name → (n : ℕ) (r : Names) → IsPathOf at n r → is_prefix (up ++ name ∷ []) r ≡ false
@@ -144,7 +144,7 @@ free_prefix at tree parent up name leads free n r h = elim (cases_Bool (is_prefi
   | inr none ↦ none
 ]
 
--- where no path goes through p, a move of p to q cuts q alone
+-- if no path goes through p, a move of p to q only cuts q
 cut_alone : (p q r : Names) → is_prefix p r ≡ false → after_cut q (at_path r) ≡ after_move p q (at_path r)
 cut_alone p q r none = elim (cases_Bool (is_prefix p q && is_prefix q p)) [
   | inl both ↦
@@ -209,7 +209,7 @@ module _ (old new : Lookup) (tree : IsTree old) (key target : Key) (above : Lead
         changes = moves_none old new tree key.parent up.0 key.name up.1 free cuts.path cuts.changes;
       }
 
--- ---- who may lose its children
+-- ---- which nodes may lose their children
 
 pub children_more : (old new : Lookup) (but more : ℕ → Type 0) → ((n : ℕ) → but n → more n) → KeepsChildren old but new → KeepsChildren old more new
 children_more old new but more wider keeps = record {

@@ -1,4 +1,4 @@
--- Who has a reason to stay after a node was dropped or changed, and what a sweep leaves.
+-- Which nodes have a reason after a node was dropped or changed, and what remains after a sweep.
 use Rattle.std.proofs.Common.{ℕ, zero, suc, ◌≡◌, ◌≢◌, Bool, true, List, [], ◌∷◌, ◌++◌, Contains, Option, Some, None, MatchOption, refl, sym, ap, ◌∙◌, subst, ◌⊎◌, inl, inr, arith}
 use Rattle.std.proofs.lemmas.Bool.{cases_eq}
 use Rattle.std.proofs.lemmas.List.Elements.{Contains-append_cases}
@@ -16,13 +16,13 @@ use Rattle.table_steps.specs.Sweeping.{HaveReasonsAside, IsAmong, HaveReasonsBut
 
 -- ---- dropping
 
--- a child of another parent stays
+-- a child of another parent remains
 child_stays : (at : Lookup) (n c : ℕ) → ((name : List ℕ) → IsNamed at n c name → ⊥) → HasChild at c → HasChild (without at n) c
 child_stays at n c other h =
     let ne : n ≡ h.0 → ⊥ = λ e. other h.1 (subst (λ k. IsNamed at k c h.1) (sym e) h.2) in
     (h.0, h.1, (h.2.0, without_other at n h.0 ne ∙ h.2.1, h.2.2))
 
--- a node keeps its reason where it does not lose a child
+-- a node that loses no child keeps its reason
 pub stays_kept : (at : Lookup) (pinned : ℕ → Bool) (n c : ℕ) (x : Node) → ((name : List ℕ) → IsNamed at n c name → ⊥) → HasReason at pinned c x → HasReason (without at n) pinned c x
 stays_kept at pinned n c x other (inl counted) = inl counted
 stays_kept at pinned n c x other (inr (inl hidden)) = inr (inl hidden)
@@ -39,7 +39,7 @@ HaveReasons-drop at pinned n rest x key stood place reasons c y h not_root left 
     left (inl (ap (λ (k : Key). k.parent) same)) in
     stays_kept at pinned n c y other (reasons c y was.1 not_root (λ among. elim among [ inl e ↦ was.0 (sym e) | inr later ↦ left (inr later) ]))
 
--- nobody lost a child
+-- no node lost a child
 pub HaveReasons-drop_cut : (at : Lookup) (pinned : ℕ → Bool) (n : ℕ) (rest : List ℕ) (x : Node) → at n ≡ Some x → x.place ≡ Cut → HaveReasonsBut at pinned (n ∷ rest) → HaveReasonsBut (without at n) pinned rest
 HaveReasons-drop_cut at pinned n rest x stood place reasons c y h not_root left =
     let was = without_some at n c y h in
@@ -47,27 +47,27 @@ HaveReasons-drop_cut at pinned n rest x stood place reasons c y h not_root left 
     let e : Named (record { parent = c; name = name }) ≡ Cut = sym k.2 ∙ (ap (λ (w : Node). w.place) (same_Some k.0 x (sym k.1 ∙ stood)) ∙ place) in cc in
     stays_kept at pinned n c y other (reasons c y was.1 not_root (λ among. elim among [ inl e ↦ was.0 (sym e) | inr later ↦ left later ]))
 
--- none but the number that was left out lacked a reason, and it has one, or is the root, or is gone
+-- only one number may have lacked a reason, and it has one, or is the root, or is gone
 pub HaveReasons-all : (at : Lookup) (pinned : ℕ → Bool) (n : ℕ) (rest : List ℕ) → ((x : Node) → at n ≡ Some x → n ≢ 1 → HasReason at pinned n x) → HaveReasonsBut at pinned (n ∷ rest) → HaveReasonsBut at pinned rest
 HaveReasons-all at pinned n rest here reasons c x h not_root left = elim (cases_eq c n) [
   | inl e ↦ subst (λ k. HasReason at pinned k x) (sym e) (here x (ap at (sym e) ∙ h) (λ f. not_root (e ∙ f)))
   | inr ne ↦ reasons c x h not_root (λ among. elim among [ inl e ↦ ne e | inr later ↦ left later ])
 ]
 
--- what is left out may be more
+-- more nodes may lack a reason
 pub HaveReasons-more : (at : Lookup) (pinned : ℕ → Bool) (few more : List ℕ) → ((n : ℕ) → IsAmong n few → IsAmong n more) → HaveReasonsBut at pinned few → HaveReasonsBut at pinned more
 HaveReasons-more at pinned few more grows reasons n x h not_root left = reasons n x h not_root (λ among. left (grows n among))
 
--- with none left out, each has a reason
+-- if none may lack a reason, each has one
 pub HaveReasons-none : (at : Lookup) (pinned : ℕ → Bool) → HaveReasonsBut at pinned [] → HaveReasons at pinned
 HaveReasons-none at pinned reasons n x h not_root = reasons n x h not_root (λ none. none)
 
 pub HaveReasons-some : (at : Lookup) (pinned : ℕ → Bool) (but : List ℕ) → HaveReasons at pinned → HaveReasonsBut at pinned but
 HaveReasons-some at pinned but reasons n x h not_root left = reasons n x h not_root
 
--- ---- writing and bearing
+-- ---- writing and births
 
--- a child stays a child when a node is written with the same place
+-- a child remains a child when a node is written with the same place
 pub child_written : (at : Lookup) (n : ℕ) (x y : Node) → at n ≡ Some x → y.place ≡ x.place → (c : ℕ) → HasChild at c → HasChild (with_node at n y) c
 child_written at n x y stood place c h = elim (cases_eq n h.0) [
   | inl e ↦
@@ -94,7 +94,7 @@ HaveReasons-write at pinned n x y but stood place reasons m z h not_root left = 
   | inr (ne, was) ↦ reason_moves at (with_node at n y) pinned m z (child_written at n x y stood place m) (reasons m z was not_root (λ among. left (inr among)))
 ]
 
--- all but the newborn keep their reasons
+-- all but the new node keep their reasons
 pub HaveReasons-born : (at : Lookup) (pinned : ℕ → Bool) (n : ℕ) (y : Node) (but : List ℕ) → at n ≡ None → HaveReasonsBut at pinned but → HaveReasonsBut (with_node at n y) pinned (n ∷ but)
 HaveReasons-born at pinned n y but fresh reasons m z h not_root left = elim (with_some at n y m z h) [
   | inl (e, same) ↦ absurd (left (inl (sym e)))
@@ -115,7 +115,7 @@ HaveReasons-pins at old new but more reasons n x h root left = elim (reasons n x
 pub reasons_kept : (at : Lookup) (old new : ℕ → Bool) → ((m : ℕ) → old m ≡ true → new m ≡ true) → HaveReasons at old → HaveReasons at new
 reasons_kept at old new more reasons = HaveReasons-none at new (HaveReasons-pins at old new [] more (HaveReasons-some at old [] reasons))
 
--- where some pins go, the nodes that they pinned are left out
+-- if some pins are removed, the nodes that they pinned may lack a reason
 pub HaveReasons-unpin : (at : Lookup) (old new : ℕ → Bool) (but more : List ℕ) → ((m : ℕ) → old m ≡ true → (new m ≡ true) ⊎ IsAmong m more) → ((m : ℕ) → IsAmong m but → IsAmong m more) → HaveReasonsBut at old but → HaveReasonsBut at new more
 HaveReasons-unpin at old new but more gone grows reasons n x h root left = elim (reasons n x h root (λ among. left (grows n among))) [
   | inl counted ↦ inl counted
@@ -173,14 +173,14 @@ module _ (at : Lookup) (pinned : ℕ → Bool) (number : ℕ) (rest : List ℕ) 
   reasons_after (Named key) is needless pruned = HaveReasons-drop at pinned number rest x key stood is pruned.reasons
   reasons_after Cut is needless pruned = HaveReasons-drop_cut at pinned number rest x stood is pruned.reasons
 
--- a number that leads nowhere needs no reason
+-- a number without a node needs no reason
 pub IsPruned-gone : (at : Lookup) (pinned : ℕ → Bool) (number : ℕ) (rest : List ℕ) → at number ≡ None → IsPruned at pinned (number ∷ rest) → IsPruned at pinned rest
 IsPruned-gone at pinned number rest none pruned = record {
   tree = pruned.tree;
   reasons = HaveReasons-all at pinned number rest (λ y stands not_root. absurd (none-some y (sym none ∙ stands))) pruned.reasons;
 }
 
--- the node goes, and its parent may have lost its last reason
+-- the node is dropped, and its parent may have lost its last reason
 pub IsPruned-drop : (at new : Lookup) (pinned : ℕ → Bool) (number : ℕ) (rest : List ℕ) (x : Node) → at number ≡ Some x → new ≡ without at number → IsTree new → IsNeedless at pinned number x → IsPruned at pinned (number ∷ rest) → (o : Option ℕ) → o ≡ parent_in x.place
     → MatchOption o (IsPruned new pinned rest) (λ p. IsPruned new pinned (p ∷ rest))
 IsPruned-drop at new pinned number rest x stood gone tree needless pruned None is =
@@ -192,7 +192,7 @@ IsPruned-drop at new pinned number rest x stood gone tree needless pruned (Some 
     let reasons = subst (λ o. MatchOption o (HaveReasonsBut (without at number) pinned rest) (λ p. HaveReasonsBut (without at number) pinned (p ∷ rest))) (sym is) after in
     record { tree = tree; reasons = subst (λ a. HaveReasonsBut a pinned (p ∷ rest)) (sym gone) reasons }
 
--- what stays the same over two sweeps
+-- what does not change over two sweeps
 pub IsSameRest-trans : (a b c : Nodes) → IsSameRest a b → IsSameRest b c → IsSameRest a c
 IsSameRest-trans a b c first then = record {
   fewer = omega (arith, first.fewer, then.fewer);
@@ -201,7 +201,7 @@ IsSameRest-trans a b c first then = record {
   room = omega (arith, first.room, then.room);
 }
 
--- the list of nodes that were newly cut is no part of that
+-- this does not depend on the list of newly cut nodes
 pub rest_taken : (a b c : Nodes) → c ≡ record b { newly_cut = c.newly_cut } → IsSameRest a b → IsSameRest a c
 rest_taken a b c same rest = record {
   fewer = omega (arith, rest.fewer, ap (λ (t : Nodes). t.living) same);
@@ -210,21 +210,21 @@ rest_taken a b c same rest = record {
   room = omega (arith, rest.room, ap (λ (t : Nodes). t.room) same);
 }
 
--- ---- nodes that were newly cut, one after another
+-- ---- newly cut nodes, one after another
 
 only_in : (m n : ℕ) → Contains (m ∷ []) n → m ≡ n
 only_in m n (zero, within, e) = e
 only_in m n (suc k, within, e) = absurd (omega (arith, within))
 
 module _ (at : Lookup) (kept : ℕ → Bool) (but : Option ℕ) (cuts : List ℕ) (number : ℕ) (before : HaveReasonsAside at kept but (cuts ++ number ∷ [])) where
-  -- one that is not that number is in the list only where it was
+  -- another number is in the list only if it was before
   later : (n : ℕ) (x : Node) → (n ≡ number → ⊥) → (x.place ≡ Cut → Contains cuts n → ⊥) → x.place ≡ Cut → Contains (cuts ++ number ∷ []) n → ⊥
   later n x ne aside lost among = elim (Contains-append_cases cuts (number ∷ []) n among) [
     | inl earlier ↦ aside lost earlier
     | inr last ↦ ne (sym (only_in number n last))
   ]
 
-  -- where the node of that number has a reason, or is not cut, it need not be listed
+  -- if the node with that number has a reason, or is not cut, it need not be in the list
   aside_less : ((x : Node) → at number ≡ Some x → number ≢ 1 → (x.place ≡ Cut → ⊥) ⊎ HasReason at kept number x) → HaveReasonsAside at kept but cuts
   aside_less here = record {
     reasons = λ n x h not_root left aside. elim (cases_eq n number) [
@@ -262,6 +262,6 @@ left_out : (but : Option ℕ) (n : ℕ) → (IsAmong n (listed but) → ⊥) →
 left_out None n left e = none-some n e
 left_out (Some b) n left e = left (inl (sym (same_Some b n e)))
 
--- none is listed
+-- the list is empty
 pub aside_all : (at : Lookup) (kept : ℕ → Bool) (but : Option ℕ) (cuts : List ℕ) → cuts ≡ [] → HaveReasonsAside at kept but cuts → HaveReasonsBut at kept (listed but)
 aside_all at kept but cuts none before n x h not_root left = before.reasons n x h not_root (left_out but n left) (λ lost among. let it = subst (λ (l : List ℕ). Contains l n) none among in absurd (omega (arith, it.1)))

@@ -1,4 +1,4 @@
--- What the record of a request says that it gave and opened is what the end of its work told.
+-- What a request's record says it gave and opened is what the end of its work returned.
 use Rattle.std.proofs.Common.{ℕ, ◌≡◌, ◌==◌, ◌⊎◌, false, Option, Some, None, length, refl, sym, ap, ◌∙◌, inl, inr}
 use Rattle.std.proofs.Math.Seq.{drop-append_seam}
 use Rattle.std.proofs.lemmas.Bool.{cond-true, eq-eqb, true≢false}
@@ -15,7 +15,7 @@ cases_flight None = inl refl
 cases_flight (Some f) = inr (f, refl)
 
 module _ (old new : World) (id : ℕ) (outcome : Outcome) (answer : Answer) (fin : Finishes old id outcome answer new) (told : answer.lost ≡ false) where
-  -- some request was worked on
+  -- some request was in progress
   not_lost : ((f : RequestInFlight) (work : Work) → IsAtWork old.flights id f work → ⊥) → ⊥
   not_lost none = true≢false (sym (ap (λ (a : Answer). a.lost) (fin.lost none).0) ∙ told)
 

@@ -1,4 +1,4 @@
--- An error number is written and read as it is.
+-- Writing an error number and reading it back.
 use Rattle.std.proofs.Common.{ℤ, ap, inl, inr, to_z, of_z, w32}
 use Rattle.paths.specs.Prefixes.{Names}
 use Rattle.tree.specs.Places.{Lookup}

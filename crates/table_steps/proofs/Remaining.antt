@@ -1,4 +1,4 @@
--- Which nodes still stand after an entry, a birth or a sweep.
+-- Which nodes still exist after an entry, a birth or a sweep.
 use Rattle.std.proofs.Common.{ℕ, ◌≡◌, Bool, true, Some, None, sym, ap, ◌∙◌, subst, inl, inr}
 use Rattle.std.proofs.lemmas.Bool.{cases_eq, true≢false}
 use Rattle.std.proofs.lemmas.Option.{none-some, same_Some}

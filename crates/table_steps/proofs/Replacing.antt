@@ -1,4 +1,4 @@
--- A name that is replaced: what stood there is hidden, and then another name is moved to its place.
+-- Replacing a name: what was there is hidden, and then another name is moved to its place.
 use Rattle.std.proofs.Common.{ℕ, ℤ, ◌&&◌, ◌≡◌, ◌≢◌, if◌then◌else◌, Bool, true, false, not, [], ◌∷◌, ◌++◌, Some, refl, sym, ap, ◌∙◌, reverse, subst, inl, inr}
 use Rattle.std.proofs.lemmas.Bool.{and_parts, cases_Bool, cases_eq, false≢true, true≢false}
 use Rattle.std.proofs.lemmas.Option.{same_Some}
@@ -22,7 +22,7 @@ use Rattle.table_steps.proofs.Guarding.{path_after_mark}
 
 -- ---- prefixes
 
--- a path that leads to a name, but is not its, leads to its parent
+-- a path that leads to a name, and is not the name's own path, leads to its parent
 prefix_above : (q up : Names) (name : Name) → is_prefix q (up ++ name ∷ []) ≡ true → is_prefix (up ++ name ∷ []) q ≡ false → is_prefix q up ≡ true
 prefix_above [] up name a b = refl
 prefix_above (x ∷ []) [] name a b =
@@ -35,7 +35,7 @@ prefix_above (x ∷ q) (y ∷ up) name a b =
     let rest : is_prefix (up ++ name ∷ []) q ≡ false = sym (ap (λ (c : Bool). c && is_prefix (up ++ name ∷ []) q) (ap (λ (n : Name). is_name y n) same ∙ is_name-same y)) ∙ b in
     rw (parts.0, prefix_above q up name parts.1 rest) refl
 
--- one that is no proper prefix of a path does not lead to its parent
+-- a path that is not a proper prefix of another does not lead to its parent
 apart_above : (q up : Names) (name : Name) → (IsProperPrefix q (up ++ name ∷ []) → ⊥) → is_prefix q up ≡ false
 apart_above q up name none = elim (cases_Bool (is_prefix q up)) [
   | inl prefix ↦
@@ -44,7 +44,7 @@ apart_above q up name none = elim (cases_Bool (is_prefix q up)) [
   | inr apart ↦ apart
 ]
 
--- ---- what follows
+-- ---- the move that follows
 
 if_same : {X : Type 0} → (b : Bool) (x : X) → (if b then x else x) ≡ x
 if_same true x = refl
@@ -54,7 +54,7 @@ pub alters_follow : (old new : Lookup) (c p q : Names) (moved : Bool) → Follow
 alters_follow old new c p q false same = subst (λ (at : Lookup). AltersNodes old at) (sym same) (nothing_altered old)
 alters_follow old new c p q true changes = alters_by (after_follow c p q) old new (if_same (leads_on c p) cut) changes
 
--- ---- who keeps its children
+-- ---- which nodes keep their children
 
 pub children_then : (old mid new : Lookup) (one two both : ℕ → Type 0) → ((n : ℕ) → one n → both n) → ((n : ℕ) → two n → both n) → AltersNodes mid new → KeepsChildren old one mid → KeepsChildren mid two new → KeepsChildren old both new
 children_then old mid new one two both first second a k l = record {
@@ -69,9 +69,9 @@ children_then old mid new one two both first second a k l = record {
   ];
 }
 
--- ---- once the target is hidden
+-- ---- after the target is hidden
 
--- a node that is cut stays so where another is marked
+-- a cut node stays cut when another one is marked
 cut_marked : (before old new : Lookup) (l : Location) → Marks before l old new → (n : ℕ) → IsCut old n → IsCut new n
 cut_marked before old new l (none_there none same) n lost = subst (λ (at : Lookup). IsCut at n) (sym same) lost
 cut_marked before old new l (one_there m x there here same) n lost =
@@ -111,7 +111,7 @@ module _ (old hidden : Lookup) (tree' : IsTree hidden) (key target candidate : K
   refused_hide : (e : ℤ) → IsRefusedMove new_path under e → ⊥
   refused_hide e refused = may_hide e (record { path = new_path; leads = hides.moves.leads; new_path = under; new_leads = hides.moves.new_leads; refused = refused })
 
-  -- a path that neither the target nor the candidate leads to stays
+  -- a path that neither the target nor the candidate leads to does not change
   stays : (n : ℕ) (p : Names) → is_prefix new_path p ≡ false → is_prefix under p ≡ false → IsPathOf old n p → IsPathOf hidden n p
   stays n p a b h = path_after_mark old hides.mid hidden (name_at target) hides.marks n p (path_after_move old hides.mid new_path under hides.moves.changes n p b a h)
 
@@ -124,7 +124,7 @@ module _ (old hidden : Lookup) (tree' : IsTree hidden) (key target candidate : K
   pub target_leads : Leads hidden target.parent
   target_leads = record { names = reverse new_up; climb = target_stays }
 
-  -- the target's path is the same
+  -- the target's path is unchanged
   target_same : (p : Names) → HasPath hidden (name_at target) p → p ≡ new_path
   target_same p leads = leads.whole ∙ (ap (λ (r : Names). r ++ target.name ∷ []) (path_same hidden tree'.rooted leads.above new_up target.parent leads.leads target_stays) ∙ sym whole)
 
@@ -179,7 +179,7 @@ module _ (old hidden : Lookup) (tree' : IsTree hidden) (key target candidate : K
     source_lost : Leads hidden key.parent → ⊥
     source_lost leads = let it = path_of_lead hidden key.parent leads in cut_pathless hidden tree' key.parent it.0 source_cut it.1
 
-  -- the move that follows may be made
+  -- the following move may be made
   pub may_follow : (e : ℤ) → IsRefusedAt hidden (name_at key) (name_at target) e → ⊥
   may_follow e it = elim (cases_Bool (leads_on under path)) [
     | inl on ↦ cut_pathless hidden tree' key.parent it.leads.above (source_cut on) it.leads.leads

@@ -1,4 +1,4 @@
--- More room changes nothing else.
+-- Making more room changes nothing else.
 use Rattle.std.proofs.Common.{ℕ, ◌≤◌, ◌≡◌, Bool, List, length, sym, ap, ◌∙◌, subst, arith}
 use Rattle.table_files.specs.OpenEntry.{Filing, files_of}
 use Rattle.table_files.specs.Handles.{Files, AreOpenEntries, Opened}

@@ -1,4 +1,4 @@
--- The law of a table of the root alone, in which no request is in flight.
+-- The law of a table with only the root and no request in flight.
 use Rattle.std.proofs.Common.{ℕ, ◌≡◌, ◌∙◌, false, List, [], ap, rules, sym}
 use Rattle.std.proofs.lemmas.Option.{none-some}
 use Rattle.std.specs.Prelude.{option_map}

@@ -1,4 +1,5 @@
--- What a request whose work has ended may do: each node that it names has a path, and no other holds its names exclusively.
+-- What a request may do after its work has ended: each node that it names has a path, and no other holds its names
+-- exclusively.
 use Rattle.std.proofs.Common.{ℕ, ◌*◌, ◌≡◌, ◌==◌, if◌then◌else◌, Bool, true, false, List, [], ◌∷◌, All, Contains, Option, Some, None, length, reverse, refl, sym, ap, ◌∙◌, subst, ◌⊎◌, inl, inr, arith, ◌≤◌, ◌+◌}
 use Rattle.std.specs.Prelude.{map, option_map}
 use Rattle.std.proofs.lemmas.Bool.{false≢true, true≢false}
@@ -43,7 +44,7 @@ use Rattle.table_requests.specs.declared.data.Stage.{Stage as Recording}
 
 -- ---- footprints
 
--- a name for which an entry may be given is under a node that is given
+-- a name for which an entry may be given is under a given node
 pub entries_under : (want : Want) (c : Case) (key : Key) → Contains (footprint_of want c).entries key → Contains (footprint_of want c).given key.parent
 entries_under (wants.Node number handle) c key h = absurd (none_in key h)
 entries_under (wants.Name parent name) c key h = subst (λ (k : Key). Contains (parent ∷ []) k.parent) (only_in (record { parent = parent; name = name }) key h) (first_in parent [])
@@ -57,7 +58,7 @@ entries_under (wants.Open number access) c key h = absurd (none_in key h)
 entries_under (wants.Create parent name access) c key h = subst (λ (k : Key). Contains (parent ∷ []) k.parent) (only_in (record { parent = parent; name = name }) key h) (first_in parent [])
 entries_under (wants.Release number fh) c key h = absurd (none_in key h)
 
--- and is shared, but for those of a page
+-- and is shared, unless it is a name of a page
 entries_shared : (want : Want) (c : Case) → (footprint_of want c).page ≡ false → (key : Key) → Contains (footprint_of want c).entries key → Contains (footprint_of want c).shared (name_at key)
 entries_shared (wants.Node number handle) c one key h = absurd (none_in key h)
 entries_shared (wants.Name parent name) c one key h = subst (λ (k : Key). Contains (AtName parent name ∷ []) (name_at k)) (only_in (record { parent = parent; name = name }) key h) (first_in (AtName parent name) [])
@@ -116,12 +117,12 @@ rows_placed seen (wants.Open number access) c fits h = none_in (AtNode 1) h
 rows_placed seen (wants.Create parent name access) c fits h = none_in (AtNode 1) h
 rows_placed seen (wants.Release number fh) c fits h = closing_placed seen.at seen.files number c fits h
 
--- where no file is opened, none is opened without an entry
+-- if no file is opened, none is opened without an entry
 pub none_alone : (b : Bool) (o : Option Opening) → o ≡ None → (if b then o else None) ≡ None
 none_alone true o none = none
 none_alone false o none = refl
 
--- a file that is opened without an entry is that of a node that is given
+-- a file that is opened without an entry is that of a given node
 pub node_given : (want : Want) (c : Case) (number : ℕ) (access : Access) → Some (record { target = AtNode number; access = access }) ≡ opened_alone (footprint_of want c) → Contains (footprint_of want c).given number
 node_given (wants.Node n handle) c number access e = absurd (none-some _ (sym e))
 node_given (wants.Name parent name) c number access e = absurd (none-some _ (sym e))
@@ -139,7 +140,7 @@ node_given (wants.Release n fh) c number access e = absurd (none-some _ (sym e))
 
 -- ---- paths
 
--- a node that is given has a path
+-- a given node has a path
 given_path : (at : Lookup) (d : Footprint) (held : Held) → Holds at d held → (n : ℕ) → Contains d.given n → (p : Names) × IsPathOf at n p
 given_path at d held holds n given =
     let it = in_map (λ (lead : GivenPath). lead.number) held.given n (subst (λ ns. Contains ns n) (sym holds.numbers) given) in
@@ -149,7 +150,7 @@ given_path at d held holds n given =
 pub given_leads : (at : Lookup) (d : Footprint) (held : Held) → Holds at d held → (n : ℕ) → Contains d.given n → Leads at n
 given_leads at d held holds n given = let up = given_path at d held holds n given in record { names = reverse up.0; climb = up.1 }
 
--- so the names that change are under nodes that have
+-- so the changing names are under nodes that have one
 pub own_leads : (at : Lookup) (d : Footprint) (held : Held) → IsGrounded d → Holds at d held → (change : Change) → AreOwn d.exclusive change → AreUnder (Leads at) change
 own_leads at d held grounded holds stays own = tt
 own_leads at d held grounded holds (cuts l) own = given_leads at d held holds (base_of l) (grounded.exclusive l own)
@@ -159,7 +160,7 @@ own_leads at d held grounded holds (hides l c) own = (given_leads at d held hold
 own_leads at d held grounded holds (replaces s t c moved) own =
     (given_leads at d held holds (base_of s) (grounded.exclusive s own.0), given_leads at d held holds (base_of t) (grounded.exclusive t own.1), given_leads at d held holds (base_of c) (grounded.exclusive c own.2))
 
--- ---- who shares a path, none holds it exclusively
+-- ---- a path that is shared is not held exclusively
 
 pub unowned : (at : Lookup) (flights : RequestsInFlight) (d : Footprint) (held : Held) (key : Key) → Holds at d held → (HoldsUp flights held → ⊥) → Contains d.shared (name_at key) → HasExclusiveHolder at flights key → ⊥
 unowned at flights d held key holds clear shared o =
@@ -189,7 +190,7 @@ lead_of at (wants.Open number access) c held holds n h = absurd (none_in n h)
 lead_of at (wants.Create parent name access) c held holds n h = absurd (none_in n h)
 lead_of at (wants.Release number fh) c held holds n h = absurd (none_in n h)
 
--- ---- what a request that ends may do
+-- ---- what a request may do at its end
 
 module _ (s : State) (id : ℕ) (work : RecordedWork) (kept : IsKept s) (e : IsEnding s id work) where
   abbrev footprint : Footprint
@@ -207,7 +208,7 @@ module _ (s : State) (id : ℕ) (work : RecordedWork) (kept : IsKept s) (e : IsE
     | inr all ↦ inr (λ key h. let it = All-contains (IsStanding (at_in s.tree) (flight_of e.flight)) footprint.entries key all h in (it.number, it.named))
   ]
 
-  -- none was given yet, and three postings were promised for each
+  -- nothing was given yet, and three postings were promised for each name
   pub entries_few : s.limits.counts ≡ Free → s.limits.nodes + most_posted e.flight.stage e.flight.pins.numbers + length footprint.entries ≤ s.limits.postings
   entries_few f =
       let postings : work.promise.postings ≡ 3 * length footprint.entries = ap (λ (p : Promise). p.postings) promised in

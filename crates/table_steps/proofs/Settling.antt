@@ -1,4 +1,4 @@
--- What the end of a request leaves.
+-- The result of ending a request.
 use Rattle.std.proofs.Common.{ℕ, ◌-◌, ◌≡◌, ◌==◌, Bool, true, false, List, [], ◌∷◌, drop, Option, None, sym, ap, ◌∙◌, subst, ◌⊎◌, inl, inr, arith, ◌+◌, ◌≤◌, length, refl}
 use Rattle.std.specs.Prelude.{option_map}
 use Rattle.std.specs.List.{list_any}
@@ -38,7 +38,7 @@ use Rattle.std.proofs.lemmas.List.{length-drop}
 use Rattle.terms.specs.declared.limits.Counts.{Counts}
 use Rattle.terms.specs.declared.limits.Counts.TheVariants.{Bounded, Free}
 
--- what a stage says of a request that is answered
+-- what a stage says about an answered request
 abbrev before_in : Stage → ℕ
 before_in (Working work) = 0
 before_in (Answered before opened) = before
@@ -47,7 +47,7 @@ abbrev opened_in : Stage → Option ℕ
 opened_in (Working work) = None
 opened_in (Answered before opened) = opened
 
--- a number in a list is among its numbers, whatever stands before them
+-- an element of a list is a member of it, whatever comes before
 among_any : (ms : List ℕ) (n : ℕ) → list_any (λ m. m == n) ms ≡ true → IsAmong n ms
 among_any [] n h = absurd (true≢false (sym h))
 among_any (m ∷ ms) n h = elim (or_cases (m == n) (list_any (λ a. a == n) ms) h) [
@@ -55,7 +55,7 @@ among_any (m ∷ ms) n h = elim (or_cases (m == n) (list_any (λ a. a == n) ms) 
   | inr later ↦ inr (among_any ms n later)
 ]
 
--- no node moves where entries are taken back
+-- taking back entries moves no node
 paths_back : (ns : List ℕ) (at new : Lookup) (ps qs : Periods) → TakesAllBack at ps ns new qs → KeepsAllPaths at new
 paths_back [] at new ps qs h n q leads = subst (λ a. IsPathOf a n q) (sym h.0) leads
 paths_back (m ∷ ns) at new ps qs (mid, ms, inl back, rest) n q leads =
@@ -74,7 +74,7 @@ module _ (s : State) (kept : IsKept s) (flights : InFlight) (id : ℕ) (ended : 
   abbrev pins : List ℕ
   pins = ended.pins.numbers
 
-  -- the pins that went may have been the last reasons of their nodes
+  -- the pins that are removed may have been the last reasons of their nodes
   pub taken_nearly : IsNearly (at_in s.tree) s.ledger.made (kept_by flights s.files) ended.pins.numbers
   taken_nearly =
       let old = kept_by s.flights s.files in
@@ -96,7 +96,7 @@ module _ (s : State) (kept : IsKept s) (flights : InFlight) (id : ℕ) (ended : 
         };
       }
 
-  -- there is room for what goes back: for all counts, or for what it gave
+  -- there is room for what is taken back: for all counts, or for what the request gave
   pub settle_room : (from : ℕ) (taken : Bool) → drop from pins ≡ untaken_of taken (drop ended.before pins) → (s.limits.counts ≡ Free → most_posted_by ((requests_of s.flights).at id) ≤ s.ledger.room)
       → (s.tree.counts ≤ s.ledger.room) ⊎ (length pins ≤ s.ledger.room + from)
   settle_room from taken some room = elim (cases_counts s.limits.counts) [
@@ -219,7 +219,7 @@ not_working : (st : Recording) (before : ℕ) (opened : Option ℕ) → is_worki
 not_working (recorded.Working work) before opened working ended = absurd (cc)
 not_working (recorded.Answered since file) before opened working ended = absurd (true≢false (sym working))
 
--- none was answered under the id
+-- no request with that id was answered
 none_answered : (all : RequestMaps) (id : ℕ) → HasNoneAnswered all.at id → IsAnswered (flights_in all) id → ⊥
 none_answered all id none is =
     let it = found_in (all.at id) is.flight is.here in

@@ -1,4 +1,4 @@
--- What a request that goes on leaves.
+-- The result of beginning a request.
 use Rattle.std.proofs.Common.{ℕ, ◌+◌, ◌%◌, ◌^◌, ◌==◌, if◌then◌else◌, not, false, [], ◌≡◌, ◌||◌, ◌⊎◌, Bool, true, reverse, All, Contains, List, Option, Some, None, length, refl, sym, ap, ◌∙◌, subst, inl, inr, arith}
 use Rattle.std.specs.Prelude.{option_map}
 use Rattle.std.proofs.lemmas.Bool.{or_cases, or_left}
@@ -49,7 +49,7 @@ use Rattle.table_steps.proofs.Few.{few_with}
 
 -- ---- more pins
 
--- more numbers are pinned, all of them alive
+-- more numbers are pinned, all with living nodes
 lawful_pins : (at : Lookup) (ps : Periods) (old new : ℕ → Bool) → IsUpheld at ps old → ((n : ℕ) → old n ≡ true → new n ≡ true) → AreAlive at new → IsUpheld at ps new
 lawful_pins at ps old new law more alive = record {
   tree = law.tree;
@@ -72,14 +72,14 @@ module _ (at : Lookup) (tree : IsTree at) (d : Footprint) (held : Held) (footpri
   there_alive (AtNode m) asked n e = subst (λ k. IsAlive at k) (sym e) (given_alive m (footprint.paths (AtNode m) asked))
   there_alive (AtName parent name) asked n named = (named.0, named.1)
 
-  -- what is pinned stands
+  -- what is pinned exists
   pub pin_alive : (n : ℕ) → IsPin at d n → IsAlive at n
   pin_alive n (inl given) = given_alive n given
   pin_alive n (inr any) = let it = in_any (λ l. IsThere at l n) d.paths any in there_alive it.0 it.1 n it.2
 
--- ---- a plan that is recorded
+-- ---- recording a new request
 
--- the names that are kept for a request are the candidates of its footprint
+-- the names that are reserved for a request are the candidates of its footprint
 names_fit : (parent : ℕ) (names : List Name) (kept : List Name) → kept ≡ names → not (length kept == 0) ≡ not (length (names_under parent names) == 0)
 names_fit parent names kept is = ap (λ (n : ℕ). not (n == 0)) (ap {B = ℕ} length is ∙ sym (length-map names (λ (x : Name). AtName parent x)))
 
@@ -118,7 +118,7 @@ closing_stays number cases.Pathless = refl
 closing_stays number cases.Last = refl
 closing_stays number (cases.Hiding n k) = refl
 
--- whether a name is moved to itself does not hang on the case
+-- whether a name is moved to itself does not depend on the case
 pub same_case : (want : Want) (c : Case) → is_same (footprint_of want cases.Plain).done ≡ is_same (footprint_of want c).done
 same_case (wants.Node number handle) c = refl
 same_case (wants.Name parent name) c = refl

@@ -1,4 +1,5 @@
--- What a request relies on stays where the paths stay whose prefixes it holds. This is said once, of footprints.
+-- What a request relies on does not change if the paths do not whose prefixes it holds. This is stated about
+-- footprints, once.
 use Rattle.std.proofs.Common.{ℕ, ℤ, ◌≡◌, List, [], ◌∷◌, ◌++◌, Contains, get_or, refl, sym, ap, ◌∙◌, subst, ◌⊎◌, inl, inr}
 use Rattle.std.specs.Prelude.{map}
 use Rattle.std.proofs.lemmas.Bool.{cases_Bool, true≢false}
@@ -28,7 +29,7 @@ map_in f (y ∷ xs) x h = elim (cases_in y xs x h) [
 
 -- ---- what a footprint covers
 
--- a prefix of the path of a node is one of the location that it is the base of
+-- a prefix of the path of a node is one of the location that is at or under it
 prefix_at : (at : Lookup) (prefix p : Names) (l : Location) (n : ℕ) → base_of l ≡ n → IsPathOf at n p → IsSomePrefix prefix p → IsPrefixAt at prefix l
 prefix_at at prefix p (AtNode m) n e leads some = record { path = p; leads = subst (λ k. IsPathOf at k p) (sym e) leads; begins = some }
 prefix_at at prefix p (AtName m name) n e leads some = record {
@@ -63,7 +64,7 @@ KeepsPaths old new pins held = (n : ℕ) → Contains pins n → (q : Names) →
 
 module _ (old new : Lookup) (tree' : IsTree new) (d : Footprint) (held : Held) (footprint : IsGrounded d) (holds : Holds old d held) (f : RequestInFlight)
     (pinned : (n : ℕ) → Contains d.given n → Contains f.pins n) (keeps : KeepsPaths old new f.pins held) where
-  -- the prefixes of the path of a node that is given are held
+  -- the prefixes of the path of a given node are held
   pub prefixes_given : (n : ℕ) → Contains d.given n → (p : Names) → IsPathOf old n p → HoldsPrefixes held p
   prefixes_given n given p leads prefix some = elim (footprint.covered n given) [
     | inl any ↦
@@ -143,7 +144,7 @@ module _ (old new : Lookup) (tree' : IsTree new) (d : Footprint) (held : Held) (
   between_back : (s t : Location) → Contains d.given (base_of s) → Contains d.given (base_of t) → (e : ℤ) → IsRefusedBetween new s t e → IsRefusedBetween old s t e
   between_back s t gs gt e it = record { path = it.path; leads = back s gs it.path it.leads; new_path = it.new_path; new_leads = back t gt it.new_path it.new_leads; refused = it.refused }
 
-  -- what stands at a name that is shared stands there still
+  -- the node at a shared name is still there
   standing_kept : (key : Key) → Contains d.shared (AtName key.parent key.name) → IsStanding old f key → IsStanding new f key
   standing_kept key shared it =
       let given : Contains d.given key.parent = footprint.shared (AtName key.parent key.name) shared in
@@ -171,7 +172,8 @@ module _ (old new : Lookup) (tree' : IsTree new) (f : RequestInFlight) (work : W
   pub its_row : IsGrounded work.footprint
   its_row = subst (λ (d : Footprint). IsGrounded d) (sym ready.footprint) (are_grounded work.want ready.case)
 
-  -- where the pinned nodes keep the paths whose prefixes a request holds, the request stays ready, whatever its want
+  -- if the pinned nodes keep the paths whose prefixes a request holds, the request still has what it relies on,
+  -- whatever its want
   pub ready_kept : IsReady new f work
   ready_kept =
       let footprint = its_row in
@@ -198,6 +200,6 @@ module _ (old new : Lookup) (tree' : IsTree new) (f : RequestInFlight) (work : W
   paths_of (l ∷ ls) given paths (path, rest, spelt, leads, more) =
       (path, rest, spelt, forth old new tree' work.footprint work.held its_row ready.holds f ready.pinned keeps l (given l (first_in l ls)) path leads, paths_of ls (λ m h. given m (later_in l ls m h)) rest more)
 
-  -- and so do the paths of its ticket
+  -- and the paths of its ticket are unchanged
   pub paths_kept : (paths : List Names) → ArePaths old work.footprint.paths paths → ArePaths new work.footprint.paths paths
   paths_kept paths are = paths_of work.footprint.paths its_row.paths paths are

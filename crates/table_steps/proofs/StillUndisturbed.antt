@@ -1,4 +1,4 @@
--- After each step what the ends of requests remove has no open file.
+-- After each step, what the ends of requests remove has no open file.
 use Rattle.std.proofs.Common.{ℕ, ◌≡◌, ◌⊎◌, Bool, false, Option, Some, None, refl, sym, ap, ◌∙◌, subst, inl, inr, arith}
 use Rattle.std.proofs.lemmas.Bool.{cases_Bool, cases_eq}
 use Rattle.std.proofs.lemmas.Option.{none-some, same_Some}
@@ -30,7 +30,7 @@ cases_flight : (o : Option RequestInFlight) → (o ≡ None) ⊎ ((f : RequestIn
 cases_flight None = inl refl
 cases_flight (Some f) = inr (f, refl)
 
--- a table of the root alone
+-- a table with only the root
 pub opened_calm : (limits : Limits) → IsCalm (opened_world limits)
 opened_calm limits id f work at = absurd (none-some f at.here)
 

@@ -1,4 +1,4 @@
--- What the tests of a plan decide.
+-- What the tests of a new request decide.
 use Rattle.std.proofs.Common.{ℤ, ◌+◌, ◌*◌, ◌^◌, ◌<◌, ◌≤◌, ◌≡◌, length, sym, subst, inl, inr, arith}
 use Rattle.ledger.specs.Sums.{totals_over}
 use Rattle.table_files.specs.OpenEntry.{files_of}
@@ -41,7 +41,7 @@ module _ (s : State) (p : Promise) where
       let handles : 2 ^ 64 ≤ (files_of s.files).last + (requests_of s.flights).files + p.files → ⊥ = λ over. fits (inr (inr (inr (λ h. let enough = h.handles in omega arith)))) in
       record { nodes = omega (arith, nodes); postings = λ b. omega (arith, postings b); begun = λ f. omega (arith, begun f); entries = omega (arith, entries); files = omega (arith, files); handles = omega (arith, handles) }
 
--- ---- tests of a plan
+-- ---- the tests of a new request
 
 module _ (s : State) (want : Want) (new_request : NewRequest) (is : IsNewRequest (seen_in (world_of s)) want new_request) where
   pub held_up : flying.HoldsUp (requests_of s.flights).at new_request.work.held → IsHeldUp (world_of s) (footprint_in new_request.work)
@@ -54,7 +54,7 @@ module _ (s : State) (want : Want) (new_request : NewRequest) (is : IsNewRequest
   pub admissible : IsAdmissible (world_of s) (footprint_in new_request.work)
   admissible = record { usable = usable; sound = is.sound }
 
-  -- the tally is the running totals
+  -- the sums over the world are the running totals
   on_totals : (t : Tally) → IsTally (world_of s) t → t ≡ tally_of s
   on_totals t it = tally_once (world_of s) t (tally_of s) it tally
 

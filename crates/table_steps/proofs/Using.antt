@@ -15,7 +15,7 @@ use Rattle.table_steps.specs.Beginning.{IsHandleUsable, IsRefusedHandle}
 use Rattle.table_steps.specs.Steps.{IsUsable}
 use Rattle.table_steps.specs.World.{World, seen_in}
 
--- the handle that is used does not hang on the case
+-- the handle that is used does not depend on the case
 used_same : (want : Want) (c : Case) → (footprint_of want cases.Plain).used ≡ (footprint_of want c).used
 used_same (wants.Node number handle) c = refl
 used_same (wants.Name parent name) c = refl

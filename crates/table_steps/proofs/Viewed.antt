@@ -1,4 +1,4 @@
--- Requests in flight as the world sees them, and what is kept where some of them are no longer worked on.
+-- Requests in flight as the world sees them, and what holds when some of them are no longer in progress.
 use Rattle.std.proofs.Common.{ℕ, ◌≡◌, ◌↔◌, ◌==◌, Bool, true, false, if◌then◌else◌, List, [], ◌∷◌, Contains, Option, Some, None, refl, sym, ap, ◌∙◌, subst, inl, inr}
 use Rattle.std.specs.Prelude.{option_map}
 use Rattle.std.specs.List.{list_any}
@@ -46,7 +46,7 @@ work_in : (s : Recording) (work : Work) → stage_of s ≡ Working work → (r :
 work_in (recorded.Working r) work e = (r, refl, (let same : work_of r ≡ work = cc in same))
 work_in (recorded.Answered before opened) work e = absurd (cc)
 
--- a request that is worked on, and its record
+-- a request in progress, and its record
 pub record IsRecorded (all : RequestMaps) (id : ℕ) (f : RequestInFlight) (work : Work) : Type 0 where
   pub flight : Recorded
   pub here : all.at id ≡ Some flight
@@ -72,7 +72,7 @@ are_pinned all flying n = (
       (flying.pins n).1 (h.id, found.0, found.1, any_of found.0.pins.numbers n (subst (λ (f : RequestInFlight). Contains f.pins n) (sym found.2) h.pin)),
 )
 
--- the numbers that are kept are those that a request pins or a file is open of
+-- the numbers that are kept alive are those that a request pins or that have an open file
 pub are_kept : (flights : InFlight) (files : Filing) → AreLawfulRequests (requests_of flights) → AreOpenEntries (files_of files) → AreKept (flights_in (requests_of flights)) (files_of files).at (kept_by flights files)
 are_kept flights files flying filed n = (
   λ h. elim (cases_kept flights files n h) [
@@ -101,9 +101,9 @@ flights_with old new id f is = fun_ext (λ k. ap (λ (at : Recordeds). option_ma
 pub flights_without : (old new : RequestMaps) (id : ℕ) → new.at ≡ without_flight old.at id → flights_in new ≡ with_entry (flights_in old) id None
 flights_without old new id is = fun_ext (λ k. ap (λ (at : Recordeds). option_map flight_of (at k)) is ∙ map_unless (id == k) (old.at k))
 
--- ---- fewer that are worked on
+-- ---- fewer requests in progress
 
--- who is worked on was so before
+-- a request in progress was in progress before
 pub record IsFewer (old new : RequestMaps) : Type 0 where
   pub was : (id : ℕ) (f : Recorded) (work : RecordedWork) → new.at id ≡ Some f → f.stage ≡ recorded.Working work → old.at id ≡ Some f
 

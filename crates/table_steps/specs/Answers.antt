@@ -1,10 +1,11 @@
--- What contracts see of tickets and answers.
+-- Tickets and answers as contracts see them.
 use Rattle.std.specs.Prelude.{ℕ, Bool, List, Option, count_by, is_some}
 use Rattle.table_requests.specs.declared.data.Given.{Given}
 use Rattle.paths.specs.Prefixes.{Names}
 
--- a request that goes on: its id, its paths when it began, whether a name is moved to itself, and whether an open file may have to be
--- hidden, under one of the last ten paths, and whether its end removes a hidden file whose last opening it closed
+-- a request that was begun: its id; its paths when it began; whether a name is moved to itself; whether an open file
+-- may have to be hidden, under one of the last ten paths; and whether its end removes a hidden file whose last handle
+-- it closed
 pub record Claim : Type 0 where
   pub id : ℕ
   pub paths : List Names

@@ -1,4 +1,4 @@
--- What the end of a request's work rests on, and what it does.
+-- What the end of a request's work relies on, and what it does.
 use Rattle.std.specs.Prelude.{ℕ, ℤ, ◌+◌, ◌*◌, ◌^◌, ◌<◌, ◌≡◌, ◌≤◌, ◌⊎◌, Bool, true, false, if◌then◌else◌, List, [], ◌∷◌, ◌++◌, Option, Some, None, Contains, length}
 use Rattle.table_files.specs.declared.data.Access.{Access}
 use Rattle.table_files.specs.OpenEntry.{files_of}
@@ -81,7 +81,7 @@ abbrev pub candidates_in : Option FolderKeys → List Location
 candidates_in None = []
 candidates_in (Some keys) = names_in keys
 
--- the file that is opened without an entry, and the one of the name for which an entry is given
+-- the file that is opened without an entry, and the one of the name whose entry is given
 abbrev pub exclusive_in : Opens → Option Opening
 exclusive_in opens.Nothing = None
 exclusive_in (opens.Node number access) = Some (record { target = AtNode number; access = access })
@@ -94,13 +94,13 @@ with_in (opens.Entry access) Nothing = None
 with_in (opens.Entry access) (One keys) = Some (record { target = name_at keys.key; access = access })
 with_in (opens.Entry access) (Page keys) = None
 
--- one file more may be opened
+-- one more file may be opened
 pub record HasFileRoom (s : State) : Type 0 where
   pub room : (requests_of s.flights).files + 1 ≤ (files_of s.files).room
   pub within : (files_of s.files).many + (requests_of s.flights).files + 1 ≤ s.limits.files
   pub handles : (files_of s.files).last + (requests_of s.flights).files + 1 < 2 ^ 64
 
--- a request whose work has ended is recorded under the id
+-- the request with that id is recorded, and its work has ended
 pub record HasEnded (s : State) (id : ℕ) : Type 0 where
   pub flight : Recorded
   pub here : (requests_of s.flights).at id ≡ Some flight
@@ -118,7 +118,7 @@ MayOpenGiven s id (opens.Node number access) entered = Unit {0}
 MayOpenGiven s id (opens.Entry access) None = Unit {0}
 MayOpenGiven s id (opens.Entry access) (Some g) = IsAlive (at_in s.tree) g.number × HasFileRoom s × HasEnded s id
 
--- the files with one of that node more, which the request under the id notes
+-- one more file of that node is open, and noted for the request with that id
 pub record OpensAt (s : State) (id number : ℕ) (access : Access) (new : State) : Type 0 where
   pub node : Node
   pub here : at_in s.tree number ≡ Some node
@@ -127,35 +127,35 @@ pub record OpensAt (s : State) (id number : ℕ) (access : Access) (new : State)
   pub files : files_of new.files ≡ after_open (files_of s.files) (record { number = number; generation = node.generation; access = access })
   pub filed : AreOpenEntries (files_of new.files)
 
--- the file of the node is opened, if one may be
+-- a file of the node is opened, if one may be
 abbrev pub OpensNode : State → ℕ → Opens → Option ℕ → State → Type 0
 OpensNode s id opens.Nothing opened new = (opened ≡ None) × (new ≡ s)
 OpensNode s id (opens.Node number access) opened new = (opened ≡ Some ((files_of s.files).last + 1)) × OpensAt s id number access new
 OpensNode s id (opens.Entry access) opened new = (opened ≡ None) × (new ≡ s)
 
--- that of the node that was given is, if one may be
+-- a file of the node that was given is opened, if one may be
 abbrev pub OpensGiven : State → ℕ → Opens → Option Given → Option ℕ → State → Type 0
 OpensGiven s id opens.Nothing entered opened new = (opened ≡ None) × (new ≡ s)
 OpensGiven s id (opens.Node number access) entered opened new = (opened ≡ None) × (new ≡ s)
 OpensGiven s id (opens.Entry access) None opened new = (opened ≡ None) × (new ≡ s)
 OpensGiven s id (opens.Entry access) (Some g) opened new = (opened ≡ Some ((files_of s.files).last + 1)) × OpensAt s id g.number access new
 
--- what was given for the one name, if there is one
+-- what was given for the only name, if there is one
 abbrev pub IsGivenFor : State → EnteredNames → List (Option Given) → Option Given → Type 0
 IsGivenFor new Nothing given entered = entered ≡ None
 IsGivenFor new (One keys) given entered = (g : Given) × (entered ≡ Some g) × (given ≡ Some g ∷ []) × IsAlive (at_in new.tree) g.number
 IsGivenFor new (Page keys) given entered = entered ≡ None
 
--- ---- what its end rests on
+-- ---- what the end relies on
 
--- a request whose work has ended still has what it relied on, and gave and opened nothing yet
+-- a request whose work has ended still has what it relied on, and has given and opened nothing yet
 pub record IsEnding (s : State) (id : ℕ) (work : RecordedWork) : Type 0 where
   pub flight : Recorded
   pub here : (requests_of s.flights).at id ≡ Some flight
   pub answered : flight.stage ≡ recorded.Answered (length flight.pins.numbers) None
   pub provided : IsProvided work flight.pins
   pub ready : IsReady (at_in s.tree) (flight_of flight) (work_of work)
-  -- no request that is still worked on is in its way
+  -- no request still in progress conflicts with it
   pub clear : HoldsUp (flights_in (requests_of s.flights)) work.held → ⊥
   pub room : IsRoomFor s work.promise
   pub few : s.limits.counts ≡ Free → s.limits.nodes + work.promise.postings ≤ s.limits.postings
@@ -168,17 +168,17 @@ pub record MayEnter (s : State) (id : ℕ) (keys : List Key) : Type 0 where
   pub pin_room : length keys ≤ flight.pins.room
   pub leads : (key : Key) → Contains keys key → Leads (at_in s.tree) key.parent
   pub promise : Promise
-  -- a birth was promised for each of the names, or a node stands there
+  -- a birth was promised for each of the names, or the name has a node
   pub births : (promise.nodes ≡ length keys) ⊎ ((key : Key) → Contains keys key → (n : ℕ) × IsNamed (at_in s.tree) n key.parent key.name)
   pub postings : promise.postings ≡ 3 * length keys
   pub room : IsRoomFor s promise
   pub few : s.limits.counts ≡ Free → s.limits.nodes + most_posted flight.stage flight.pins.numbers + length keys ≤ s.limits.postings
 
--- no request that is worked on holds one of the names alone
+-- no request in progress holds one of the names exclusively
 abbrev pub AreUnowned : State → List Key → Type 0
 AreUnowned s keys = (key : Key) → Contains keys key → HasExclusiveHolder (at_in s.tree) (flights_in (requests_of s.flights)) key → ⊥
 
--- a node and an entry may be given for each name: both were promised for each of them
+-- a node and an entry may be given for each name: both were promised for each
 pub record MayFill (s : State) (id : ℕ) (keys : List Key) : Type 0 where
   pub flight : Recorded
   pub here : (requests_of s.flights).at id ≡ Some flight
@@ -188,13 +188,13 @@ pub record MayFill (s : State) (id : ℕ) (keys : List Key) : Type 0 where
   pub room : IsRoomFor s (record { nodes = length keys; postings = 3 * length keys; files = 0 })
   pub few : s.limits.counts ≡ Free → s.limits.nodes + most_posted flight.stage flight.pins.numbers + length keys ≤ s.limits.postings
 
--- the request named that node alone, by its path
+-- the request named only that node, with its path
 pub record LeadsTo (at : Lookup) (given : List GivenPath) (number : ℕ) : Type 0 where
   pub lead : GivenPath
   pub only : given ≡ lead ∷ []
   pub leads : IsPathOf at number lead.path
 
--- names may change that a footprint holds exclusively, where no request that is worked on is in the way
+-- the names that a footprint holds exclusively may change, if no request in progress conflicts
 pub record MayAlter (s : State) (change : Change) : Type 0 where
   pub footprint : Footprint
   pub grounded : IsGrounded footprint
@@ -206,9 +206,9 @@ pub record MayAlter (s : State) (change : Change) : Type 0 where
   pub kept : (n : ℕ) → Contains footprint.given n → kept_by s.flights s.files n ≡ true
   pub not_misplaced : (e : ℤ) → IsMisplaced (at_in s.tree) change e → ⊥
 
--- ---- what it does
+-- ---- what the end does
 
--- the nodes that the names that change are under
+-- the nodes that the changing names are under
 abbrev pub AreUnder : (ℕ → Type 0) → Change → Type 0
 AreUnder P stays = Unit {0}
 AreUnder P (cuts l) = P (base_of l)
@@ -217,7 +217,7 @@ AreUnder P (hides l candidate) = P (base_of l) × P (base_of candidate)
 AreUnder P (replaces source target candidate moved) = P (base_of source) × P (base_of target) × P (base_of candidate)
 AreUnder P (exchanges source target) = P (base_of source) × P (base_of target)
 
--- what stands there is named under the node
+-- what is at that location has the node as its parent
 abbrev pub IsOver : Lookup → Location → ℕ → Type 0
 IsOver at (AtName parent name) n = n ≡ parent
 IsOver at (AtNode number) n = (name : Name) × IsNamed at number n name
@@ -230,7 +230,7 @@ IsUnder at (hides l candidate) n = (n ≡ base_of l) ⊎ (n ≡ base_of candidat
 IsUnder at (replaces source target candidate moved) n = (n ≡ base_of source) ⊎ ((n ≡ base_of target) ⊎ (n ≡ base_of candidate))
 IsUnder at (exchanges source target) n = (n ≡ base_of source) ⊎ (n ≡ base_of target)
 
--- the node that is not given and may lose its last child: that over a node which is cut by its number
+-- the node that was not given and may lose its last child: the parent of a node that is cut by its number
 abbrev pub loses : Lookup → Change → Option ℕ
 loses at stays = None
 loses at (cuts (AtName parent name)) = None
@@ -240,11 +240,11 @@ loses at (hides l candidate) = None
 loses at (replaces source target candidate moved) = None
 loses at (exchanges source target) = None
 
--- the same request, which pins what it gives
+-- the same request, which also pins what it gives
 abbrev pub giving : RequestInFlight → List (Option Given) → RequestInFlight
 giving f given = record f { pins = f.pins ++ numbers_of given }
 
--- an entry of the name is given, and the request pins its node
+-- an entry for the name is given, and the request pins its node
 pub record EntersName (old : World) (id : ℕ) (f : RequestInFlight) (key : Key) (g : Given) (new : World) : Type 0 where
   pub enters : Enters old.at old.postings key.parent key.name g new.at new.postings
   pub new_is : new ≡ record old {
@@ -253,7 +253,7 @@ pub record EntersName (old : World) (id : ℕ) (f : RequestInFlight) (key : Key)
     flights = with_entry old.flights id (Some (giving f (Some g ∷ [])));
   }
 
--- entries of these names are given as they were found, and the request pins what it gave
+-- entries are given for those of these names that were found, and the request pins what it gave
 pub record GivesAll (old : World) (id : ℕ) (f : RequestInFlight) (keys : List Key) (found : List Bool) (given : List (Option Given)) (new : World) : Type 0 where
   pub enters : EntersAll old.flights old.at old.postings keys found given new.at new.postings
   pub new_is : new ≡ record old {
@@ -262,13 +262,13 @@ pub record GivesAll (old : World) (id : ℕ) (f : RequestInFlight) (keys : List 
     flights = with_entry old.flights id (Some (giving f given));
   }
 
--- names change, and what nothing keeps any more goes
+-- names change, and what nothing keeps alive any more is dropped
 pub record ChangesNames (old : World) (change : Change) (new : World) : Type 0 where
   pub altered : Lookup
   pub alters : Alters old.at change altered
   pub sweeps : Sweeps altered new
   pub new_is : new ≡ record old { at = new.at }
 
--- each node with a child keeps one, is cut, or is one of these
+-- each node with a child still has one, is cut, or is one of these
 pub record KeepsChildren (old : Lookup) (but : ℕ → Type 0) (new : Lookup) : Type 0 where
   pub child : (n : ℕ) → HasChild old n → HasChild new n ⊎ (IsCut new n ⊎ but n)

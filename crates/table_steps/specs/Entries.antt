@@ -1,4 +1,4 @@
--- Entries that are given to the client, and that are taken back.
+-- Entries that are given to the client, or taken back.
 use Rattle.std.specs.Prelude.{ℕ, ◌-◌, ◌+◌, ◌<◌, ◌≡◌, ◌⊎◌, Bool, true, false, List, [], ◌∷◌, ◌++◌, Some, None}
 use Rattle.ledger.specs.declared.postings.Posting.TheVariants.{Born, Entry, Back}
 use Rattle.ledger.specs.Periods.{Periods, posted}
@@ -8,11 +8,11 @@ use Rattle.tree.specs.declared.nodes.Place.TheVariants.{Named}
 use Rattle.tree.specs.Places.{Lookup, with_node, IsFree}
 use Rattle.table_requests.specs.declared.data.Given.{Given}
 
--- a node as it is born, with its first entry
+-- a new node with its first entry
 abbrev pub newborn : Given → ℕ → List ℕ → Node
 newborn g parent name = record { number = g.number; generation = g.generation; place = Named (record { parent = parent; name = name }); count = 1; hidden = false }
 
--- one more entry of the node that is named so
+-- one more entry of the node with this name
 pub record EntersAgain (at : Lookup) (ps : Periods) (parent : ℕ) (name : List ℕ) (g : Given) (at' : Lookup) (ps' : Periods) : Type 0 where
   pub node : Node
   pub here : at g.number ≡ Some node
@@ -21,7 +21,7 @@ pub record EntersAgain (at : Lookup) (ps : Periods) (parent : ℕ) (name : List 
   pub nodes : at' ≡ with_node at g.number (record node { count = node.count + 1 })
   pub postings : ps' ≡ posted ps (Entry g.number g.generation)
 
--- where none is named so, a node is born under a number that none bears, and entered
+-- if no node has this name, a node is born with a number that no node has, and gets its first entry
 pub record Bears (at : Lookup) (ps : Periods) (parent : ℕ) (name : List ℕ) (g : Given) (at' : Lookup) (ps' : Periods) : Type 0 where
   pub free : IsFree at parent name
   -- the number 0 would tell the client that there is no entry
@@ -31,11 +31,11 @@ pub record Bears (at : Lookup) (ps : Periods) (parent : ℕ) (name : List ℕ) (
   pub nodes : at' ≡ with_node at g.number (newborn g parent name)
   pub postings : ps' ≡ posted (posted ps (Born g.number g.generation)) (Entry g.number g.generation)
 
--- an entry of the name is given
+-- an entry for the name is given
 abbrev pub Enters : Lookup → Periods → ℕ → List ℕ → Given → Lookup → Periods → Type 0
 Enters at ps parent name g at' ps' = EntersAgain at ps parent name g at' ps' ⊎ Bears at ps parent name g at' ps'
 
--- one entry of the node goes back, if there is one to take
+-- one entry of the node is taken back, if there is one
 pub record TakesBack (at : Lookup) (ps : Periods) (n : ℕ) (at' : Lookup) (ps' : Periods) : Type 0 where
   pub node : Node
   pub here : at n ≡ Some node
@@ -54,7 +54,7 @@ TakesAllBack at ps [] at' ps' = (at' ≡ at) × (ps' ≡ ps)
 TakesAllBack at ps (n ∷ ns) at' ps' =
     (mid : Lookup) × (qs : Periods) × (TakesBack at ps n mid qs ⊎ TakesNone at ps n mid qs) × TakesAllBack mid qs ns at' ps'
 
--- what goes back: nothing where the reply was taken
+-- what is taken back: nothing if the reply was taken
 abbrev pub untaken_of : Bool → List ℕ → List ℕ
 untaken_of true ns = []
 untaken_of false ns = ns

@@ -1,4 +1,4 @@
--- Which numbers the parts keep alive: those that a request pins, and those that a file is open of.
+-- Which numbers the parts keep alive: those that a request pins, and those with an open file.
 use Rattle.std.specs.Prelude.{ℕ, ◌||◌, Bool}
 use Rattle.table_files.specs.OpenEntry.{Filing, files_of}
 use Rattle.table_requests.specs.Listed.{InFlight, requests_of}

@@ -1,4 +1,4 @@
--- The parts of a table as a world, and what holds of the parts.
+-- The parts of a table as a world, and their invariants.
 use Rattle.std.specs.Prelude.{ℕ, ◌+◌, ◌*◌, ◌^◌, ◌<◌, ◌≤◌, ◌≡◌, Some, length, option_map}
 use Rattle.table_files.specs.OpenEntry.{files_of}
 use Rattle.table_files.specs.Handles.{AreOpenEntries, Opened}
@@ -47,7 +47,7 @@ world_of s = record {
   last_handle = (files_of s.files).last;
 }
 
--- the totals that run along
+-- the running totals
 abbrev pub tally_of : State → Tally
 tally_of s = record {
   living = s.tree.living;
@@ -57,13 +57,13 @@ tally_of s = record {
   files = (files_of s.files).many;
 }
 
--- ---- what holds of the parts
+-- ---- the invariants of the parts
 
--- the end of each request that is worked on takes no memory
+-- the end of each request in progress does not allocate
 abbrev pub AreProvided : RequestMaps → Type 0
 AreProvided all = (id : ℕ) (f : Recorded) (work : RecordedWork) → all.at id ≡ Some f → f.stage ≡ recorded.Working work → IsProvided work f.pins
 
--- there is room for all that may still come, so that only a begin takes memory
+-- there is room for everything that may still be added, so that only a begin allocates
 pub record IsReserved (limits : Limits) (tree : Nodes) (ledger : Postings) (flying : RequestMaps) (filed : Opened) : Type 0 where
   pub nodes : flying.nodes ≤ tree.room
   pub births : flying.nodes ≤ ledger.places
@@ -71,13 +71,14 @@ pub record IsReserved (limits : Limits) (tree : Nodes) (ledger : Postings) (flyi
   pub whole : limits.counts ≡ Free → limits.postings ≤ length ledger.made.last + ledger.room
   pub files : flying.files ≤ filed.room
 
--- what stands and what is promised keeps within the limits
+-- what there is and what is promised stays within the limits
 pub record IsLimited (s : State) : Type 0 where
   pub nodes : s.tree.living + (requests_of s.flights).nodes ≤ s.limits.nodes
   pub postings : s.limits.counts ≡ Bounded → length s.ledger.made.last + s.tree.counts + (requests_of s.flights).postings ≤ s.limits.postings
   pub begun_within : s.limits.counts ≡ Free → s.limits.nodes + (requests_of s.flights).postings ≤ s.limits.postings
   pub entries : 3 * (totals_over s.ledger.made).entries + (requests_of s.flights).postings < 3 * 2 ^ 64
-  -- each count is of an entry, each birth came with one, and each life was begun by a posting of the last period
+  -- each lookup count is of an entry, each birth came with an entry, and each node was born or carried over in the last
+  -- period
   pub counted : s.tree.counts ≤ (totals_over s.ledger.made).entries
   pub births : (totals_over s.ledger.made).born ≤ (totals_over s.ledger.made).entries
   pub begun : s.tree.living ≤ length s.ledger.made.last + 1
@@ -89,11 +90,11 @@ pub record IsLimited (s : State) : Type 0 where
   pub posting_limit : s.ledger.limit ≡ s.limits.postings
   pub short : (s.limits.nodes < 2 ^ 64) × (s.limits.postings < 2 ^ 64) × (s.limits.files < 2 ^ 64)
 
--- where counts are free, a period that has just begun has room for the next call on each request
+-- if counts are free, a period that has just begun has room for the next call on each request
 abbrev pub AreFew : Limits → RequestMaps → Type 0
 AreFew limits all = limits.counts ≡ Free → (id : ℕ) (f : Recorded) → all.at id ≡ Some f → limits.nodes + maps.most_posted f.stage f.pins.numbers ≤ limits.postings
 
--- the parts fit each other
+-- the parts are consistent
 pub record IsKept (s : State) : Type 0 where
   pub law : IsUpheld (at_in s.tree) s.ledger.made (kept_by s.flights s.files)
   pub flying : AreLawfulRequests (requests_of s.flights)
@@ -107,12 +108,12 @@ pub record IsKept (s : State) : Type 0 where
   pub filed : AreOpenEntries (files_of s.files)
   pub files : HaveNodes (at_in s.tree) (files_of s.files).at
 
--- so they are between two calls: besides, what the ends of requests may remove has no open file
+-- the invariant between two calls: in addition, what the ends of requests may remove has no open file
 pub record IsWhole (s : State) : Type 0 where
   pub kept : IsKept s
   pub undisturbed : AreUndisturbed (world_of s).at (world_of s).files (world_of s).flights
 
--- beside what is promised to others there is room for this promise
+-- there is room for this promise in addition to the promises of others
 pub record IsRoomFor (s : State) (promise : Promise) : Type 0 where
   pub nodes : (requests_of s.flights).nodes + promise.nodes ≤ s.tree.room
   pub births : (requests_of s.flights).nodes + promise.nodes ≤ s.ledger.places

@@ -1,4 +1,4 @@
--- The steps of a table. Each says the whole new world.
+-- The steps of a table. Each determines the whole new world.
 use Rattle.std.specs.Prelude.{ℕ, ℤ, is_some, ◌+◌, ◌-◌, ◌%◌, ◌^◌, ◌<◌, ◌≡◌, ◌≢◌, ◌⊎◌, ◌==◌, ◌&&◌, ◌↔◌, not, if◌then◌else◌, Bool, true, false, List, [], ◌∷◌, ◌++◌, Option, Some, None, AllPairs, Contains, length, drop, map, min}
 use Rattle.errno.specs.declared.TheConstants.{EAGAIN, EBADF, ENFILE}
 use Rattle.std.specs.List.{slice_get}
@@ -32,30 +32,30 @@ use Rattle.table_steps.specs.Entries.{Enters, TakesAllBack, untaken_of}
 use Rattle.table_steps.specs.Swept.{IsSwept}
 use Rattle.table_steps.specs.World.{AreKept, Answered, RequestInFlight, RequestsInFlight, HasRoom, IsAtWork, IsTally, Tally, Work, Working, World, seen_in, with_entry}
 
--- what the ledger gained by a step
+-- the postings that a step added to the ledger
 abbrev pub gained : World → World → List Posting
 gained old new = drop (length old.postings.last) new.postings.last
 
--- the new nodes are these, less those that nothing keeps any more, and none is left that nothing keeps
+-- the new nodes are these without those that nothing keeps alive any more, and none without a reason is left
 pub record Sweeps (mid : Lookup) (new : World) : Type 0 where
   pub kept : ℕ → Bool
   pub keeps : AreKept new.flights new.files kept
   pub swept : IsSwept kept mid new.at
   pub reasons : HaveReasons new.at kept
 
--- the same files, but the one that is closed
+-- the same files, except the one that is closed
 abbrev pub files_without : Option ℕ → Files → Files
 files_without None files = files
 files_without (Some handle) files = with_entry files handle None
 
 -- ---- forget
 
--- so much is taken from the node's count
+-- that much is taken from the node's count
 pub record Takes (old : World) (number amount : ℕ) (x : Node) (new : World) : Type 0 where
   pub sweeps : Sweeps (with_node old.at number (record x { count = x.count - amount })) new
   pub new_is : new ≡ record old { at = new.at; postings = posted old.postings (posting.Forget number x.generation amount) }
 
--- the smaller of n and the node's count is taken and posted, and what nothing keeps any more goes
+-- the smaller of n and the node's count is taken and posted, and what nothing keeps alive any more is dropped
 pub record Forgets (old : World) (number n amount : ℕ) (new : World) : Type 0 where
   pub unknown : old.at number ≡ None → amount ≡ 0
   pub smaller : (x : Node) → old.at number ≡ Some x → amount ≡ min n x.count
@@ -64,7 +64,7 @@ pub record Forgets (old : World) (number n amount : ℕ) (new : World) : Type 0 
 
 -- ---- begin: its tests, in order
 
--- a request that is worked on holds a path in the way of these
+-- a request in progress holds a path that conflicts with these
 pub record HoldsUp (flights : RequestsInFlight) (wanted : Held) : Type 0 where
   pub id : ℕ
   pub flight : RequestInFlight
@@ -77,7 +77,7 @@ pub record IsHeldUp (w : World) (d : Footprint) : Type 0 where
   pub holds : Holds w.at d held
   pub up : HoldsUp w.flights held
 
--- the handle is that of an open file of the node, which may be used so
+-- the handle is that of an open file of the node, which may be used for this
 pub record IsUsable (files : Files) (used : Used) : Type 0 where
   pub file : OpenFile
   pub here : files used.handle.fh ≡ Some file
@@ -90,24 +90,24 @@ pub record IsBadHandle (w : World) (d : Footprint) : Type 0 where
   pub asked : d.used ≡ Some used
   pub unusable : IsUsable w.files used → ⊥
 
--- the tests of its handle and of the nodes alone pass
+-- the test of its handle and the tests of the nodes pass
 pub record IsAdmissible (w : World) (d : Footprint) : Type 0 where
   pub usable : IsBadHandle w d → ⊥
   pub sound : IsSound w.at d
 
--- with what is promised, the nodes, the postings, the entries, the open files or the handles would pass their limit
+-- with this promise the nodes, the postings, the entries, the open files or the handles would exceed their limit
 pub record IsFull (w : World) (d : Footprint) : Type 0 where
   pub tally : Tally
   pub tallied : IsTally w tally
   pub none : HasRoom w tally (promise_of d) → ⊥
 
--- one request more would pass the limit
+-- one more request would exceed the limit
 pub record IsCrowded (w : World) : Type 0 where
   pub tally : Tally
   pub tallied : IsTally w tally
   pub over : w.limits.flights < tally.flights + 1
 
--- no test refuses the footprint, and none is in its way
+-- no test refuses the footprint, and no request conflicts with it
 pub record MayBegin (w : World) (d : Footprint) : Type 0 where
   pub usable : IsBadHandle w d → ⊥
   pub sound : IsSound w.at d
@@ -115,7 +115,7 @@ pub record MayBegin (w : World) (d : Footprint) : Type 0 where
   pub room : IsFull w d → ⊥
   pub uncrowded : IsCrowded w → ⊥
 
--- the refusals in the order of their tests: that of the handle comes first, then those of the nodes alone, and want of memory
+-- the refusals in the order of their tests: first that of the handle, then those of the nodes, and out of memory
 pub data IsRefusal (w : World) (d : Footprint) (e : ℤ) : Type 0 where
   bad_handle : e ≡ EBADF → IsBadHandle w d → IsRefusal w d e
   unsound : (IsBadHandle w d → ⊥) → IsUnsound w.at d e → IsRefusal w d e
@@ -128,7 +128,7 @@ pub data IsRefusal (w : World) (d : Footprint) (e : ℤ) : Type 0 where
 abbrev pub may_hide : Footprint → Bool
 may_hide d = not (length d.candidates == 0)
 
--- the counter of the next hidden name: ten names more are taken where a file may have to be hidden
+-- the counter of the next hidden name: ten more names are used if a file may have to be hidden
 abbrev pub counter_after : Footprint → ℕ → ℕ
 counter_after d counter = if may_hide d then (counter + 10) % 2 ^ 32 else counter
 
@@ -140,23 +140,24 @@ is_cut (hides l candidate) = false
 is_cut (replaces source target candidate moved) = false
 is_cut (exchanges source target) = false
 
--- whether a file is closed whose node is removed by the end of the work
+-- whether a file is closed whose node the end of the work removes
 abbrev pub is_last : Footprint → Bool
 is_last d = is_some d.closes && is_cut d.done
 
--- the ticket tells the paths, whether a name is moved to itself or changes places with itself, or may have to be hidden, and whether a last opening removes a file
+-- the ticket has the paths, whether a name is moved to itself or exchanged with itself, whether a file may have to be
+-- hidden, and whether the last handle of a hidden file was closed
 pub record IsTicket (at : Lookup) (d : Footprint) (ticket : Claim) : Type 0 where
   pub paths : ArePaths at d.paths ticket.paths
   pub same : ticket.same ≡ is_same d.done
   pub hide : ticket.hide ≡ may_hide d
   pub last : ticket.last ≡ is_last d
 
--- where a file is closed what nothing keeps any more goes, else all nodes stay
+-- if a file is closed, what nothing keeps alive any more is dropped; otherwise the nodes do not change
 abbrev pub Leaves : Lookup → Option ℕ → World → Type 0
 Leaves at None new = new.at ≡ at
 Leaves at (Some handle) new = Sweeps at new
 
--- one request more is in flight, under an id that none bore, and the handle that it closes is closed
+-- one more request is in flight, under an unused id, and the handle that it closes is closed
 pub record GoesOn (old : World) (unique : ℕ) (want : Want) (d : Footprint) (ticket : Claim) (new : World) : Type 0 where
   pub fresh : old.flights ticket.id ≡ None
   pub ticket_is : IsTicket old.at d ticket
@@ -182,9 +183,9 @@ pub record Begins (old : World) (unique : ℕ) (want : Want) (answer : Begin) (n
   pub footprint_is : IsFootprint (seen_in old) want footprint
   pub begins : BeginsAs old unique want footprint answer new
 
--- ---- finish: what an outcome comes to
+-- ---- finish: what an outcome does
 
--- which names are to be given, what becomes of names, and which file is opened
+-- which entries are given, how names change, and which file is opened
 pub record Act : Type 0 where
   pub found : List Bool
   pub change : Change
@@ -197,11 +198,11 @@ none_found keys = map (λ key. false) keys
 abbrev pub failure : Footprint → Act
 failure d = record { found = none_found d.entries; change = stays; opens = None }
 
--- the name of a request that has one, and is no page
+-- the name of a request that has one and is not a page
 abbrev pub one_found : Bool → List Key → List Bool
 one_found page keys = map (λ key. not page) keys
 
--- the names of a page, where it is told of each whether it was found
+-- the names of a page, if the outcome says of each whether it was found
 abbrev pub page_found : Bool → List Key → List Bool → List Bool
 page_found page keys found = if page && (length found == length keys) then found else none_found keys
 
@@ -223,7 +224,7 @@ hiding_at (hides l other) candidate = stays
 hiding_at (replaces source target other moved) candidate = stays
 hiding_at (exchanges source target) candidate = stays
 
--- what was to be replaced is, and then another name is moved to its place, if it may be
+-- what was to be replaced is hidden, and then the other name is moved to its place, if it may be
 abbrev pub replacing_at : Change → Option Location → Bool → Change
 replacing_at stays candidate moved = stays
 replacing_at (cuts l) candidate moved = stays
@@ -244,7 +245,7 @@ act_of d (HiddenMove candidate moved) = record (failure d) { change = replacing_
 
 -- ---- finish: entries
 
--- a request that is worked on holds the path of the name alone
+-- a request in progress holds the path of the name exclusively
 pub record HasExclusiveHolder (at : Lookup) (flights : RequestsInFlight) (key : Key) : Type 0 where
   pub path : Names
   pub leads : IsPathOfName at key.parent key.name path
@@ -254,7 +255,8 @@ pub record HasExclusiveHolder (at : Lookup) (flights : RequestsInFlight) (key : 
   pub here : IsAtWork flights id flight work
   pub exclusive : Contains work.held.exclusive path
 
--- each name in turn: an entry of it is given, with a birth where no node stands, if it was found and no request holds it exclusively
+-- each name in turn: if it was found and no request holds it exclusively, an entry is given, with a birth if it has no
+-- node
 abbrev pub EntersAll : RequestsInFlight → Lookup → Periods → List Key → List Bool → List (Option Given) → Lookup → Periods → Type 0
 EntersAll flights at ps (key ∷ keys) (true ∷ found) (Some g ∷ given) at' ps' =
     (HasExclusiveHolder at flights key → ⊥) × ((mid : Lookup) × (qs : Periods) × Enters at ps key.parent key.name g mid qs × EntersAll flights mid qs keys found given at' ps')
@@ -265,13 +267,13 @@ EntersAll flights at ps keys found given at' ps' = ⊥
 
 -- ---- finish: names
 
--- what stands at the location or below is cut
+-- what is at the location or below is cut
 pub record Cuts (old : Lookup) (l : Location) (new : Lookup) : Type 0 where
   pub path : Names
   pub leads : HasPath old l path
   pub changes : Changes (after_cut path) old new
 
--- what stands at the source or below is moved to the target, where what stood is cut
+-- what is at the source or below is moved to the target, and what was at the target is cut
 pub record Moves (old : Lookup) (source target : Location) (new : Lookup) : Type 0 where
   pub path : Names
   pub leads : HasPath old source path
@@ -279,19 +281,20 @@ pub record Moves (old : Lookup) (source target : Location) (new : Lookup) : Type
   pub new_leads : HasPath old target new_path
   pub changes : Changes (after_move path new_path) old new
 
--- what stood at the location before, if anything did, has a hidden mark, and all else is as it was
+-- what was at the location before, if anything, has a hidden mark, and nothing else changed
 pub data Marks (before : Lookup) (l : Location) (old new : Lookup) : Type 0 where
   none_there : ((n : ℕ) → IsThere before l n → ⊥) → new ≡ old → Marks before l old new
   one_there : (n : ℕ) (x : Node) → IsThere before l n → old n ≡ Some x → new ≡ with_node old n (record x { hidden = true }) → Marks before l old new
 
--- what stands at the location or below is moved to the candidate, where what stood is cut, and what stood at the location is marked
+-- what is at the location or below is moved to the candidate, and what was at the location is marked; what was at the
+-- candidate is cut
 pub record Hides (old : Lookup) (l candidate : Location) (new : Lookup) : Type 0 where
   pub mid : Lookup
   pub moves : Moves old l candidate mid
   pub marks : Marks old l mid new
 
--- p is moved to q once what stood at q is hidden at c. The paths are those of before: where c leads to p, what stood there was cut, and so
--- what stands at q is cut alone
+-- p is moved to q after what was at q was hidden at c. The paths are those before: if c leads to p, what was at p is
+-- cut by then, and so only what is at q is cut
 abbrev pub after_follow : Names → Names → Names → Where → Where
 after_follow c p q w = if is_prefix c p && not (is_prefix p c) then after_cut q w else after_move p q w
 
@@ -299,7 +302,7 @@ abbrev pub Follows : Lookup → Names → Names → Names → Bool → Lookup �
 Follows old candidate path new_path true new = Changes (after_follow candidate path new_path) old new
 Follows old candidate path new_path false new = new ≡ old
 
--- what stands at the target is hidden, and then what stood at the source is moved to the target, if it may be
+-- what is at the target is hidden, and then what was at the source is moved to the target, if it may be
 pub record Replaces (old : Lookup) (source target candidate : Location) (moved : Bool) (new : Lookup) : Type 0 where
   pub path : Names
   pub leads : HasPath old source path
@@ -309,7 +312,7 @@ pub record Replaces (old : Lookup) (source target candidate : Location) (moved :
   pub hides : Hides old target candidate hidden
   pub follows : Follows hidden hides.moves.new_path path new_path moved new
 
--- what stands at either or below is moved to the other
+-- what is at either or below is moved to the other
 pub record Exchanges (old : Lookup) (source target : Location) (new : Lookup) : Type 0 where
   pub path : Names
   pub leads : HasPath old source path
@@ -327,7 +330,7 @@ Alters old (exchanges source target) new = Exchanges old source target new
 
 -- ---- finish: files
 
--- a file of the node that stands at the target is opened under the next handle
+-- a file of the node at the target is opened under the next handle
 pub record OpensFile (at : Lookup) (opening : Opening) (old : World) (opened : Option ℕ) (files : Files) (last : ℕ) : Type 0 where
   pub number : ℕ
   pub there : IsThere at opening.target number
@@ -343,17 +346,18 @@ Opens at (Some opening) old opened files last = OpensFile at opening old opened 
 
 -- ---- finish
 
--- the numbers of the nodes given
+-- the numbers of the nodes that were given
 abbrev pub numbers_of : List (Option Given) → List ℕ
 numbers_of [] = []
 numbers_of (None ∷ given) = numbers_of given
 numbers_of (Some g ∷ given) = g.number ∷ numbers_of given
 
--- the same request, answered: it holds nothing, keeps its pins, pins what it gave, and tells the file that it opened
+-- the same request, answered: it holds nothing, keeps its pins, pins what it gave, and has the file that it opened
 abbrev pub answered : RequestInFlight → List (Option Given) → Option ℕ → RequestInFlight
 answered f given opened = record f { stage = Answered (length f.pins) opened; pins = f.pins ++ numbers_of given }
 
--- the act comes about: entries, then changes of names, and then the file; what nothing keeps any more goes
+-- the act is carried out: entries, then changes of names, and then the file; what nothing keeps alive any more is
+-- dropped
 pub record Ends (old : World) (id : ℕ) (f : RequestInFlight) (act : Act) (entries : List Key) (answer : Answer) (new : World) : Type 0 where
   pub answer_id : answer.id ≡ id
   pub not_lost : answer.lost ≡ false
@@ -372,18 +376,18 @@ pub record Ends (old : World) (id : ℕ) (f : RequestInFlight) (act : Act) (entr
   }
 
 pub record Finishes (old : World) (id : ℕ) (outcome : Outcome) (answer : Answer) (new : World) : Type 0 where
-  -- a ticket that no request is worked on under
+  -- a ticket that belongs to no request in progress
   pub lost : ((f : RequestInFlight) (work : Work) → IsAtWork old.flights id f work → ⊥) → (answer ≡ record { id = id; given = []; lost = true; opened = None }) × (new ≡ old)
   pub found : (f : RequestInFlight) (work : Work) → IsAtWork old.flights id f work → Ends old id f (act_of work.footprint outcome) work.footprint.entries answer new
 
 -- ---- settle
 
--- the handle that is closed: none where the reply was taken
+-- the handle that is closed, or none if the reply was taken
 abbrev pub untaken_file : Bool → Option ℕ → Option ℕ
 untaken_file true opened = None
 untaken_file false opened = opened
 
--- a request whose work has ended is in flight under the id
+-- the request with that id is in flight, and its work has ended
 pub record IsAnswered (flights : RequestsInFlight) (id : ℕ) : Type 0 where
   pub flight : RequestInFlight
   pub here : flights id ≡ Some flight
@@ -391,8 +395,9 @@ pub record IsAnswered (flights : RequestsInFlight) (id : ℕ) : Type 0 where
   pub opened : Option ℕ
   pub ended : flight.stage ≡ Answered before opened
 
--- the request goes with its pins; what was not taken goes back, an entry of each node that it gave, in order, and the file that it opened is
--- closed, if it still is open: what it gave and opened is what the table recorded of it, whatever the answer says that ends it
+-- the request is removed with its pins. If its reply was not taken, an entry of each node that it gave is taken back,
+-- in order, and the file that it opened is closed, if it still is open. What it gave and opened is what the table
+-- recorded, whatever the answer says
 pub record EndsFor (old : World) (id : ℕ) (a : IsAnswered old.flights id) (taken : Bool) (new : World) : Type 0 where
   pub mid : Lookup
   pub back : TakesAllBack old.at old.postings (untaken_of taken (drop a.before a.flight.pins)) mid new.postings
@@ -412,7 +417,7 @@ pub record Settles (old : World) (answer : Answer) (taken : Bool) (settled : Set
 
 -- ---- the end of a period, and room for a call
 
--- what a period begins with, of one node
+-- what a period begins with for one node
 pub record IsOpeningOf (at : Lookup) (p : Posting) : Type 0 where
   pub number : ℕ
   pub node : Node
@@ -420,13 +425,13 @@ pub record IsOpeningOf (at : Lookup) (p : Posting) : Type 0 where
   pub not_root : number ≢ 1
   pub posting_is : p ≡ posting.Opening number node.generation node.count
 
--- these are all of them, by rising number
+-- these are all openings, sorted by number
 pub record AreOpenings (at : Lookup) (ps : List Posting) : Type 0 where
   pub rising : AllPairs (λ p q. number_of p < number_of q) ps
   pub each : (p : Posting) → Contains ps p ↔ IsOpeningOf at p
 
--- births and totals are kept, the next period begins with the count of each node but the root, also where it is 0, and all else
--- stays: so many postings fewer are made
+-- births and totals are kept, the next period begins with the count of each node except the root, even if it is 0, and
+-- nothing else changes: there are that many postings fewer
 pub record ClosesPeriod (old : World) (fewer : ℕ) (new : World) : Type 0 where
   pub births : (n : ℕ) → births_closed n new.postings.births ≡ births_of n old.postings
   pub births_once : AllPairs (λ (b c : KeptBirths). b.number ≢ c.number) new.postings.births
@@ -435,10 +440,10 @@ pub record ClosesPeriod (old : World) (fewer : ℕ) (new : World) : Type 0 where
   pub fewer_is : fewer + length new.postings.last ≡ length old.postings.last
   pub new_is : new ≡ record old { postings = new.postings }
 
--- counts are free, and the period has no room for so many postings more
+-- counts are free, and the period has no room for that many more postings
 abbrev pub IsShort : World → ℕ → Type 0
 IsShort w n = (w.limits.counts ≡ Free) × (w.limits.postings < length w.postings.last + n)
 
--- a period ends that has no room for them
+-- the period ends if it has no room for them
 abbrev pub MakesRoom : World → ℕ → World → Type 0
 MakesRoom old n new = ((IsShort old n → ⊥) × (new ≡ old)) ⊎ (IsShort old n × ((fewer : ℕ) × ClosesPeriod old fewer new))

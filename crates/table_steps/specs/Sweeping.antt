@@ -1,4 +1,4 @@
--- What holds while nodes that nothing keeps are dropped one by one.
+-- What holds while nodes that nothing keeps alive are dropped one by one.
 use Rattle.std.specs.Prelude.{ℕ, ◌+◌, ◌≡◌, ◌≢◌, ◌≤◌, ◌⊎◌, Bool, true, List, [], ◌∷◌, Option, Some, None, Contains, length}
 use Rattle.table_files.specs.Handles.{AreOpenEntries, Opened}
 use Rattle.paths.specs.Prefixes.{Name}
@@ -17,53 +17,53 @@ abbrev pub IsAmong : ℕ → List ℕ → Type 0
 IsAmong n [] = ⊥
 IsAmong n (b ∷ bs) = (n ≡ b) ⊎ IsAmong n bs
 
--- each node but the root has a reason, those that are left out aside
+-- each node except the root has a reason, or is one of these
 abbrev pub HaveReasonsBut : Lookup → (ℕ → Bool) → List ℕ → Type 0
 HaveReasonsBut at kept but = (n : ℕ) (x : Node) → at n ≡ Some x → n ≢ 1 → (IsAmong n but → ⊥) → HasReason at kept n x
 
--- each node but the root has a reason, those aside that are cut and in the list, and one that may be left out
+-- each node except the root has a reason, or is cut and in the list, or is the one that may lack it
 pub record HaveReasonsAside (at : Lookup) (kept : ℕ → Bool) (but : Option ℕ) (cuts : List ℕ) : Type 0 where
   pub reasons : (n : ℕ) (x : Node) → at n ≡ Some x → n ≢ 1 → (but ≡ Some n → ⊥) → (x.place ≡ Cut → Contains cuts n → ⊥) → HasReason at kept n x
 
--- each node that is cut was cut before, or is listed as newly cut, and what was listed is
+-- each node that is cut now was cut before or is in the list of newly cut nodes, and that list lost nothing
 pub record AreListed (old new : Nodes) : Type 0 where
   pub kept : (n : ℕ) → Contains old.newly_cut n → Contains new.newly_cut n
   pub cut : (n : ℕ) → IsCut (at_in new) n → IsCut (at_in old) n ⊎ Contains new.newly_cut n
 
--- the one that may be left out
+-- the one that may lack a reason
 abbrev pub listed : Option ℕ → List ℕ
 listed None = []
 listed (Some n) = n ∷ []
 
--- the nodes are a tree in which all have a reason, those that are left out aside
+-- the nodes are a tree in which all have a reason, except possibly these
 pub record IsPruned (at : Lookup) (kept : ℕ → Bool) (but : List ℕ) : Type 0 where
   pub tree : IsTree at
   pub reasons : HaveReasonsBut at kept but
 
--- the law, but that some nodes may lack a reason
+-- the law, except that some nodes may lack a reason
 pub record IsNearly (at : Lookup) (ps : Periods) (kept : ℕ → Bool) (but : List ℕ) : Type 0 where
   pub booked : IsBooked at ps kept
   pub pruned : IsPruned at kept but
 
--- the number that a place is under
+-- the number of a place's parent
 abbrev pub parent_in : Place → Option ℕ
 parent_in Root = None
 parent_in (Named key) = Some key.parent
 parent_in Cut = None
 
--- the same of a node, if there is one
+-- the number of a node's parent, if there is a node
 abbrev pub parent_at : Option Node → Option ℕ
 parent_at None = None
 parent_at (Some x) = parent_in x.place
 
--- nodes with a count of 0 went: the sum of the counts and the limit are the same, and there is no less room
+-- nodes with count 0 were dropped: the sum of the counts and the limit are unchanged, and there is no less room
 pub record IsSameRest (old new : Nodes) : Type 0 where
   pub fewer : new.living ≤ old.living
   pub counts : new.counts ≡ old.counts
   pub limit : new.limit ≡ old.limit
   pub room : old.room ≤ new.room
 
--- the files without one or none of them: the handles stay given, and there is no less room
+-- the files without the one under the handle, if there is one: used handles stay used, and there is no less room
 pub record IsClosed (old : Opened) (handle : Option ℕ) (new : Opened) : Type 0 where
   pub at : new.at ≡ files_without handle old.at
   pub opened : (n : ℕ) → new.opened n ≡ true → old.opened n ≡ true
@@ -72,7 +72,7 @@ pub record IsClosed (old : Opened) (handle : Option ℕ) (new : Opened) : Type 0
   pub room : old.room ≤ new.room
   pub filed : AreOpenEntries new
 
--- what an entry adds, with a birth or without one: one to the sum of the counts, and so many nodes and postings
+-- what an entry adds, with or without a birth: one to the sum of the counts, and that many nodes and postings
 pub record IsOneMore (born : ℕ) (old : Nodes) (made : Postings) (new : Nodes) (more : Postings) : Type 0 where
   pub living : new.living ≡ old.living + born
   pub room : old.room ≤ new.room + born
@@ -85,14 +85,14 @@ pub record IsOneMore (born : ℕ) (old : Nodes) (made : Postings) (new : Nodes) 
   pub places : made.places ≤ more.places + born
   pub posting_limit : more.limit ≡ made.limit
 
--- a node is born at most, and none where one is named so
+-- at most one node is born, and none if a node has this name
 pub record IsEntered (old : Nodes) (made : Postings) (parent : ℕ) (name : Name) (new : Nodes) (more : Postings) : Type 0 where
   pub born : ℕ
   pub one : born ≤ 1
   pub none : (n : ℕ) → IsNamed (at_in old) n parent name → born ≡ 0
   pub more_is : IsOneMore born old made new more
 
--- what is taken back: postings take the place of counts
+-- what is taken back: postings replace counts
 pub record IsTakenBack (old : Nodes) (made : Postings) (new : Nodes) (more : Postings) : Type 0 where
   pub living : new.living ≡ old.living
   pub room : new.room ≡ old.room

@@ -1,5 +1,5 @@
--- All that a table keeps, and the law of it. No number stands here that the rest already fixes: what the limits are judged
--- by is added up over what stands.
+-- Everything that a table keeps, and its law. It has no number that the rest determines: what the limits apply to is
+-- added up from the rest.
 use Rattle.std.specs.Prelude.{ℕ, ℤ, ◌+◌, ◌*◌, ◌^◌, ◌<◌, ◌≤◌, ◌≡◌, ◌≢◌, ◌==◌, ◌↔◌, ◌⊎◌, ◌&&◌, Bool, true, not, if◌then◌else◌, List, [], ◌∷◌, Option, Some, None, All, Contains, drop, length}
 use Rattle.holds.specs.declared.held.Held.{Held}
 use Rattle.holds.specs.Conflicts.{Conflict}
@@ -25,7 +25,7 @@ use Rattle.table_footprints.specs.Footprints.{AtName, AtNode, Footprint, Locatio
 
 -- ---- what a table keeps
 
--- what is still to do for a request: its footprint is that of its want when it began
+-- what is still to be done for a request: its footprint is the one that its want had when it began
 pub record Work : Type 0 where
   pub want : Want
   pub footprint : Footprint
@@ -33,11 +33,11 @@ pub record Work : Type 0 where
 
 pub data Stage : Type 0 where
   Working : Work → Stage
-  -- how many numbers it pinned before its end gave any, and the handle of the file that it opened
+  -- how many numbers it had pinned when its work ended, and the handle of the file that it opened
   Answered : ℕ → Option ℕ → Stage
 
 pub record RequestInFlight : Type 0 where
-  -- the number that the client gave the request
+  -- the number of the request at the client
   pub unique : ℕ
   pub stage : Stage
   pub pins : List ℕ
@@ -49,7 +49,7 @@ RequestsInFlight = ℕ → Option RequestInFlight
 pub record World : Type 0 where
   -- nodes by their numbers, with their lookup counts and hidden marks
   pub at : Lookup
-  -- the ledger: the postings of the last period, the oldest first, and what is kept of those that are closed
+  -- the ledger: the postings of the last period, oldest first, and what is kept of the closed periods
   pub postings : Periods
   pub flights : RequestsInFlight
   pub limits : Limits
@@ -57,21 +57,21 @@ pub record World : Type 0 where
   pub files : Files
   -- the counter of the next hidden name
   pub counter : ℕ
-  -- the last handle that was given, or 0
+  -- the last handle that was used, or 0
   pub last_handle : ℕ
 
--- what the case of a want may look at
+-- what the case of a want may depend on
 abbrev pub seen_in : World → Seen
 seen_in w = record { at = w.at; files = w.files; counter = w.counter }
 
--- the same look-up, but that the key leads to x, or to none
+-- the same look-up, except that the key leads to x, or to none
 abbrev pub with_entry : {X : Type 0} → (ℕ → Option X) → ℕ → Option X → ℕ → Option X
 with_entry at key x = λ k. if key == k then x else at k
 
 abbrev pub no_flights : RequestsInFlight
 no_flights id = None
 
--- ---- what keeps a node alive besides the tree
+-- ---- what keeps a node alive, apart from the tree
 
 -- a request pins the number
 pub record IsPinned (flights : RequestsInFlight) (n : ℕ) : Type 0 where
@@ -84,21 +84,21 @@ pub record IsPinned (flights : RequestsInFlight) (n : ℕ) : Type 0 where
 abbrev pub AreKept : RequestsInFlight → Files → (ℕ → Bool) → Type 0
 AreKept flights files kept = (n : ℕ) → (kept n ≡ true) ↔ (IsPinned flights n ⊎ IsOpen files n)
 
--- ---- what stands, added up
+-- ---- sums over the world
 
 abbrev pub no_promise : Promise
 no_promise = record { nodes = 0; postings = 0; files = 0 }
 
--- what is promised to a request that is worked on
+-- what a request in progress was promised
 abbrev pub promised_to : Stage → Promise
 promised_to (Working work) = promise_of work.footprint
 promised_to (Answered before opened) = no_promise
 
 pub record Tally : Type 0 where
-  -- living nodes with the root, and their lookup counts
+  -- living nodes including the root, and their lookup counts
   pub living : ℕ
   pub counts : ℕ
-  -- requests in flight, and what is promised to them
+  -- requests in flight, and what they were promised
   pub flights : ℕ
   pub promised : Promise
   -- open files
@@ -113,9 +113,10 @@ pub record IsTally (w : World) (t : Tally) : Type 0 where
   pub opening : IsSum w.flights (λ f. (promised_to f.stage).files) t.promised.files
   pub files : IsSum w.files (λ f. 1) t.files
 
--- beside what stands and what is promised there is room for this: where counts are bounded each of them may be forgotten one by one, where they
--- are free a period that has just begun has room for all nodes and for it; all entries ever keep within 64 bits, three postings being promised for each, and a
--- handle is a number of 64 bits that is never given again
+-- there is room for this in addition to what there is and what is promised: if counts are bounded, each of them may be
+-- forgotten one by one; if they are free, a period that has just begun has room for all nodes and for this. All entries
+-- ever made stay within 64 bits, where three postings are promised for each; and a handle is a number of 64 bits that
+-- is never used again
 pub record HasRoom (w : World) (t : Tally) (p : Promise) : Type 0 where
   pub nodes : t.living + t.promised.nodes + p.nodes ≤ w.limits.nodes
   pub postings : w.limits.counts ≡ Bounded → length w.postings.last + t.counts + t.promised.postings + p.postings ≤ w.limits.postings
@@ -124,7 +125,8 @@ pub record HasRoom (w : World) (t : Tally) (p : Promise) : Type 0 where
   pub files : t.files + t.promised.files + p.files ≤ w.limits.files
   pub handles : w.last_handle + t.promised.files + p.files < 2 ^ 64
 
--- the most postings that the next call on a request makes: those that are promised to its work, or one back for each entry that it gave
+-- the most postings that the next call on the request makes: those promised to its work, or one give-back for each
+-- entry that it gave
 abbrev pub most_of : Option RequestInFlight → ℕ
 most_of None = 0
 most_of (Some f) = most_in f.stage f.pins
@@ -136,42 +138,42 @@ most_of (Some f) = most_in f.stage f.pins
 abbrev pub most_posted : RequestsInFlight → ℕ → ℕ
 most_posted flights id = most_of (flights id)
 
--- what stands and what is promised keeps within the limits
+-- what there is and what is promised stays within the limits
 pub record IsWithin (w : World) : Type 0 where
   pub tally : Tally
   pub tallied : IsTally w tally
   pub room : HasRoom w tally no_promise
   pub flights : tally.flights ≤ w.limits.flights
 
--- ---- what a request that is worked on may rely on
+-- ---- what a request in progress may rely on
 
--- the request is worked on under the id
+-- the request with that id is in progress
 pub record IsAtWork (flights : RequestsInFlight) (id : ℕ) (f : RequestInFlight) (work : Work) : Type 0 where
   pub here : flights id ≡ Some f
   pub working : f.stage ≡ Working work
 
--- the node that stands at the name is pinned
+-- the node with this name is pinned
 pub record IsStanding (at : Lookup) (f : RequestInFlight) (key : Key) : Type 0 where
   pub number : ℕ
   pub named : IsNamed at number key.parent key.name
   pub pin : Contains f.pins number
 
 pub record IsReady (at : Lookup) (f : RequestInFlight) (work : Work) : Type 0 where
-  -- its footprint is one of its want
+  -- its footprint is that of its want in some case
   pub case : Case
   pub footprint : work.footprint ≡ footprint_of work.want case
-  -- what it holds is what its footprint says, as the nodes stand
+  -- it holds what its footprint says, in the current state of the nodes
   pub holds : Holds at work.footprint work.held
   pub pinned : (n : ℕ) → Contains work.footprint.given n → Contains f.pins n
-  -- a birth was promised for each of its names, or a node stands there
+  -- a birth was promised for each of its names, or the name has a node
   pub names : (work.footprint.births ≡ length work.footprint.entries) ⊎ All (IsStanding at f) work.footprint.entries
   pub placed : (e : ℤ) → IsMisplaced at work.footprint.done e → ⊥
-  -- it holds not the root alone
+  -- it does not hold the root exclusively
   pub below : Contains work.footprint.exclusive (AtNode 1) → ⊥
 
--- ---- what hiding rests on
+-- ---- what hiding relies on
 
--- the name whose file is hidden where it is open, and is not removed or replaced
+-- the name whose file is hidden if it is open, and not removed or replaced
 abbrev pub hidden_at : Want → List Location
 hidden_at (wants.Node number handle) = []
 hidden_at (wants.Name parent name) = []
@@ -183,15 +185,15 @@ hidden_at (wants.Open number access) = []
 hidden_at (wants.Create parent name access) = []
 hidden_at (wants.Release number fh) = []
 
--- no file is open of what stands there
+-- no file of what is there is open
 abbrev pub IsClosedAt : Lookup → Files → Location → Type 0
 IsClosedAt at files l = (n : ℕ) → IsThere at l n → IsOpen files n → ⊥
 
 -- what the end of the work may remove for good has no open file
 pub record IsUndisturbed (at : Lookup) (files : Files) (work : Work) : Type 0 where
-  -- what stands at the name whose file would be hidden, where there are no candidates for it
+  -- what is at the name whose file would be hidden, if there are no candidates for it
   pub removal : work.footprint.candidates ≡ [] → (l : Location) → Contains (hidden_at work.want) l → IsClosedAt at files l
-  -- the node that is cut by its number, since the request closed the last opening of it
+  -- the node that is cut by its number, since the request closed its last handle
   pub release : (number : ℕ) → work.footprint.done ≡ cuts (AtNode number) → IsClosedAt at files (AtNode number)
   -- that node has a hidden mark
   pub marked : (number : ℕ) → work.footprint.done ≡ cuts (AtNode number) → (x : Node) → at number ≡ Some x → x.hidden ≡ true
@@ -201,22 +203,22 @@ AreUndisturbed at files flights = (id : ℕ) (f : RequestInFlight) (work : Work)
 
 -- ---- the law
 
--- the node of each open file lives, with the generation that it had then
+-- the node of each open file is alive, with the generation that it had when the file was opened
 abbrev pub HaveNodes : Lookup → Files → Type 0
 HaveNodes at files = (handle : ℕ) (file : OpenFile) → files handle ≡ Some file → HasNode at file
 
--- besides, each handle was given, and they rise from 1
+-- in addition, each handle was used, and handles rise from 1
 pub record AreFilesKnown (at : Lookup) (files : Files) (last : ℕ) : Type 0 where
   pub nodes : HaveNodes at files
   pub given : (handle : ℕ) (file : OpenFile) → files handle ≡ Some file → (0 < handle) × (handle ≤ last)
 
 pub record AreHeld (at : Lookup) (flights : RequestsInFlight) : Type 0 where
-  -- no two that are worked on conflict
+  -- no two requests in progress conflict
   pub apart : (j k : ℕ) (f g : RequestInFlight) (v work : Work) → IsAtWork flights j f v → IsAtWork flights k g work → j ≢ k → Conflict v.held work.held → ⊥
-  -- the paths given still lead to their nodes, and each nonempty prefix of them is held
+  -- the recorded paths still lead to their nodes, and each nonempty prefix of them is held
   pub known : (id : ℕ) (f : RequestInFlight) (work : Work) → IsAtWork flights id f work → All (IsGivenPath at work.held) work.held.given
 
--- each request that is worked on has what it relies on, by its want
+-- each request in progress has what it relies on, according to its want
 abbrev pub AreReady : Lookup → RequestsInFlight → Type 0
 AreReady at flights = (id : ℕ) (f : RequestInFlight) (work : Work) → IsAtWork flights id f work → IsReady at f work
 
@@ -230,7 +232,7 @@ pub record IsLawfulWorld (w : World) : Type 0 where
   pub within : IsWithin w
   pub files : AreFilesKnown w.at w.files w.last_handle
 
--- ---- a table of the root alone
+-- ---- a table with only the root
 
 abbrev pub opened_world : Limits → World
 opened_world limits = record {

@@ -1,4 +1,4 @@
-//! What the end of a request's work may do: the names of its footprint, taken out of its want.
+//! What the end of a request's work may do: its footprint, with the names taken out of its want.
 
 ghost use Rattle.std.specs.Prelude.{ℕ, List, ◌≡◌, ◌∷◌, [], Some};
 ghost use Rattle.table_steps.specs.Ending.{exclusive_in, candidates_in, change_in, folders_in, folders_of, is_page, keys_in, with_in};
@@ -20,21 +20,22 @@ pub(crate) enum EnteredNames {
     Page(FolderKeys),
 }
 
-/// What becomes of names once the work is done.
+/// How names change when the work is done.
 #[derive(Drop)]
 pub(crate) enum NameChange {
     Stays,
-    /// What stands there is cut.
+    /// What is there is cut.
     Cuts(Key),
     /// The node is cut.
     CutsNode(u64),
-    /// What stands at the first is moved to the second, where what stood is cut.
+    /// What is at the first is moved to the second, and what was at the second is cut.
     Moves(Key, Keys),
-    /// What stands at the first is moved to the second, where what stood is cut, and marked.
+    /// What is at the first is moved to the second and gets a hidden mark, and what was at the second is cut.
     Hides(Key, Keys),
-    /// What stands at the second is hidden at the third, and then, if so told, what stood at the first is moved to the second.
+    /// What is at the second is hidden at the third, and then, if the flag says so, what was at the first is moved to
+    /// the second.
     Replaces(Key, Keys, Keys, bool),
-    /// What stands at either is moved to the other.
+    /// What is at either is moved to the other.
     Exchanges(Keys, Keys),
 }
 
@@ -42,9 +43,9 @@ pub(crate) enum NameChange {
 #[derive(Clone, Copy)]
 pub(crate) enum Opens {
     Nothing,
-    /// That of the node.
+    /// A file of this node.
     Node(u64, Access),
-    /// That of the name for which an entry is given.
+    /// A file of the node whose entry is given.
     Entry(Access),
 }
 
@@ -53,12 +54,13 @@ pub(crate) enum Opens {
 pub(crate) struct Acts {
     pub(crate) entries: EnteredNames,
     pub(crate) change: NameChange,
-    /// The names that an open file may be hidden under.
+    /// The candidates under which an open file may be hidden.
     pub(crate) candidates: Option<FolderKeys>,
     pub(crate) opens: Opens,
 }
 
-/// What becomes of the node whose file was closed when the request began: it goes with its last opening, if it is hidden.
+/// What happens to the node whose file was closed when the request began: it is cut if it is hidden and that was its
+/// last handle.
 fn closing_change(number: u64, case: Case) -> NameChange
     ensures { change_in result ≡ closed_change number case }
 {
@@ -68,7 +70,7 @@ fn closing_change(number: u64, case: Case) -> NameChange
     }
 }
 
-/// The one name, if it is one.
+/// The only name, if there is exactly one.
 fn only(names: Names) -> Option<Name>
     ensures { (name : List ℕ) → names ≡ name ∷ [] → result ≡ Some name }
 {

@@ -1,4 +1,4 @@
-//! The beginning of a request.
+//! The begin of a request.
 
 ghost use Rattle.std.specs.Prelude.{ℕ, ◌≡◌, ◌≤◌, ◌<◌, ◌+◌, ◌*◌, ◌%◌, ◌^◌, if◌then◌else◌, ◌==◌, not, length, ◌↔◌, true, IfErr, IsTrue, OnOk};
 ghost use Rattle.ledger.specs.Sums.{totals_over};
@@ -22,14 +22,14 @@ use table_footprints::{NewRequest, new_request};
 use table_requests::{Case, Handle, Promise, RequestInFlight, Stage, Want, Work};
 use terms::Counts;
 
-/// Whether both are that of one name under one node.
+/// Whether both are the same name under the same node.
 fn is_one_name(parent: u64, name: &Name, other_parent: u64, other: &Name) -> bool
     ensures { result ≡ are_same (AtName parent name.now) (AtName other_parent other.now) }
 {
     parent == other_parent && name.is(other)
 }
 
-/// Whether a name is moved to itself, or changes places with itself.
+/// Whether a name is moved to itself, or exchanged with itself.
 fn is_same(want: &Want) -> bool
     ensures { result ≡ is_same (footprint_of want.now Case.Plain).done }
 {
@@ -57,7 +57,7 @@ fn is_same(want: &Want) -> bool
     }
 }
 
-/// The handle that the want uses, with the node that it is to be open on.
+/// The handle that the want uses, and the node that its file must belong to.
 fn used_by(want: &Want) -> Option<(u64, Handle)>
     ensures { used_in result ≡ (footprint_of want.now Case.Plain).used }
 {
@@ -100,7 +100,7 @@ fn closed_by(want: &Want) -> Option<u64>
     }
 }
 
-/// Whether the handle is that of an open file of the node, and may be used so.
+/// Whether the handle is that of an open file of the node, and may be used for this.
 fn is_usable(files: &Files, number: u64, handle: &Handle) -> bool
     ensures { IsTrue result ↔ IsUsable (files_of files.now).at (record { number = number; handle = handle.now }) }
 {
@@ -110,7 +110,7 @@ fn is_usable(files: &Files, number: u64, handle: &Handle) -> bool
     }
 }
 
-/// Whether an open file may have to be hidden, under names that are kept for it.
+/// Whether an open file may have to be hidden; then candidates are reserved for it.
 fn may_hide(work: &Work) -> bool
     ensures { result ≡ not (length work.now.candidates == 0) }
 {
@@ -127,7 +127,7 @@ fn removes_closed(case: Case) -> bool
     }
 }
 
-/// Whether a hidden file is closed for the last time, which the end of the work removes.
+/// Whether the want closes the last handle of a hidden file, which the end of the work removes.
 fn is_last(want: &Want, case: Case) -> bool
     ensures { result ≡ is_last (footprint_of want.now case) }
 {
@@ -144,10 +144,10 @@ fn is_last(want: &Want, case: Case) -> bool
     }
 }
 
-/// How many names are taken where a file may have to be hidden.
+/// How many candidates are reserved if a file may have to be hidden.
 const CANDIDATES: u32 = 10;
 
-/// The counter of the next hidden name, once a request was taken up.
+/// The counter of the next hidden name, after a request began.
 fn next_counter(counter: u32, hide: bool) -> u32
     ensures { result ≡ (if hide then (counter + 10) % 2 ^ 32 else counter) }
 {
@@ -159,13 +159,14 @@ fn next_counter(counter: u32, hide: bool) -> u32
 }
 
 impl State {
-    /// Takes up a request, if its tests allow it, and keeps free what its end may need. A handle that it closes is closed at once.
-    /// Busy and a refusal change nothing.
+    /// Begins a request, if its tests allow it, and reserves what its end may need. A handle that it closes is closed
+    /// at once. Busy and a refusal change nothing.
     pub fn begin(&mut self, unique: u64, want: Want) -> Begin
         requires { IsKept self.old }
         ensures begins { Begins (world_of self.old) unique want result (world_of self.new) }
         ensures kept { IsKept self.new }
     {
+        // The handle is tested before the node, so a bad handle is EBADF even if the node is not alive.
         match self.expect_handle(&want) {
             Ok(()) => {}
             Err(errno) => return Begin::Refused(errno),
@@ -176,7 +177,7 @@ impl State {
         }
     }
 
-    /// Tests that the handle which the want uses is that of an open file of its node, and may be used so.
+    /// Checks that the handle used by the want is that of an open file of its node, and may be used for this.
     fn expect_handle(&self, want: &Want) -> Result<(), i32>
         requires { IsKept self.now }
         ensures ok { OnOk result (IsHandleUsable (world_of self.now) want.now) }
@@ -193,7 +194,8 @@ impl State {
         }
     }
 
-    /// Records a request that passed the tests of its paths, if none is in its way and the limits allow it.
+    /// Records a request that passed the tests of its paths, if no other request conflicts with it and the limits allow
+    /// it.
     fn admit(&mut self, unique: u64, new_request: NewRequest) -> Begin
         requires kept { IsKept self.old }
         requires new_request { IsNewRequest (seen_of self.old.tree self.old.files self.old.counter) new_request.work.want new_request }
@@ -210,6 +212,8 @@ impl State {
             Ok(()) => {}
             Err(errno) => return Begin::Refused(errno),
         }
+        // Whether a name has a node is judged once, at the begin. Judged again later, this room might not suffice,
+        // since another request may have forgotten the node in between.
         match self.reserve(&promise) {
             Ok(()) => {}
             Err(_) => return Begin::Refused(ENOMEM),
@@ -240,7 +244,7 @@ impl State {
         })
     }
 
-    /// Tests that the limits allow one request more that is promised so much.
+    /// Checks that the limits allow one more request with this promise.
     fn expect_within(&self, promise: &Promise) -> Result<(), i32>
         requires { IsKept self.now }
         ensures ok { OnOk result (Allows self.now promise.now) }
@@ -267,13 +271,14 @@ impl State {
         Ok(())
     }
 
-    /// Whether the period has postings left for it, or one that has just begun, where counts are free.
+    /// Whether the period has postings left for it; if counts are free, whether a period that has just begun has.
     fn has_postings(&self, promise: &Promise) -> bool
         requires { IsKept self.now }
         ensures { IsTrue result ↔ HasPostings self.now promise.now }
     {
         let promised = self.flights.promised().postings;
         let left = match self.limits.counts {
+            // Each lookup count may be forgotten one by one, so a posting is kept free for each of them.
             Counts::Bounded => {
                 let made = self.ledger.made() as u64;
                 self.limits.postings - made - self.counts - promised
@@ -283,7 +288,8 @@ impl State {
         promise.postings <= left
     }
 
-    /// Whether all entries ever, with those that are promised, keep within 64 bits. Three postings are promised for each.
+    /// Whether all entries ever made, including those promised, stay within 64 bits. Three postings are promised for
+    /// each entry.
     fn has_entries(&self, promise: &Promise) -> bool
         requires kept { IsKept self.now }
         requires few { (requests_of self.now.flights).postings + promise.now.postings < 2 ^ 64 }
@@ -294,7 +300,7 @@ impl State {
         (promised.postings + promise.postings) / 3 <= free
     }
 
-    /// Whether the files that it may open keep within the limit, and handles are left for them.
+    /// Whether the files that it may open stay within the limit, and handles are left for them.
     fn has_handles(&self, promise: &Promise) -> bool
         requires { IsKept self.now }
         ensures { IsTrue result ↔ HasHandles self.now promise.now }
@@ -305,7 +311,7 @@ impl State {
         promise.files <= free_files && promise.files <= free_handles
     }
 
-    /// Makes room for one request more that is promised so much.
+    /// Makes room for one more request with this promise.
     fn reserve(&mut self, promise: &Promise) -> Result<(), AllocError>
         requires kept { IsKept self.old }
         requires allowed { Allows self.old promise.now }

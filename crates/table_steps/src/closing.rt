@@ -1,4 +1,4 @@
-//! Files that are closed.
+//! Closing files.
 
 ghost use Rattle.table_files.specs.OpenEntry.{files_of};
 ghost use Rattle.table_steps.specs.Beginning.{ClosesFile};
@@ -14,7 +14,8 @@ use table_files::Files;
 use table_requests::RequestsInFlight;
 use tree::Tree;
 
-/// Closes the file, if it still is open, and drops its node if nothing keeps it any more, and then its parent, and so on.
+/// Closes the file, if it is still open, and drops its node if nothing keeps it alive any more, then its parent, and so
+/// on.
 pub(crate) fn close(
     tree: &mut Tree,
     flights: &RequestsInFlight,
@@ -39,7 +40,7 @@ pub(crate) fn close(
 }
 
 impl State {
-    /// Closes the file under the handle, if one is named, and drops what nothing keeps any more.
+    /// Closes the file under the handle, if there is one, and drops what nothing keeps alive any more.
     pub(crate) fn close_file(&mut self, handle: Option<u64>)
         requires kept { IsKept self.old }
         ensures closes { ClosesFile (world_of self.old) handle (world_of self.new) }

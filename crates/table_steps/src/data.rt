@@ -1,4 +1,4 @@
-//! What callers hand in and get back.
+//! What callers pass in and get back.
 
 ghost use Rattle.std.specs.Prelude.{◌≡◌};
 
@@ -11,17 +11,17 @@ use std::marker::Model;
 use std::random::RandomSource;
 use table_requests::{Given, Givens};
 
-/// The keys that a table's hashed insides hash by. Clients choose names, so they must not know these.
+/// The seeds of a table's hash maps. Clients choose names, so they must not know these.
 #[derive(Clone, Copy, Debug)]
 pub struct Seeds {
-    /// Of the index from names to numbers.
+    /// For the index from names to numbers.
     pub index: RandomState,
-    /// Of the paths that are held.
+    /// For the paths that are held.
     pub holds: RandomState,
 }
 
 impl Seeds {
-    /// New seeds. Fails where the system gives no random bytes.
+    /// New seeds. The error is that the system gives no random bytes.
     pub fn new(rt: &impl RandomSource) -> io::Result<Seeds> {
         Ok(Seeds {
             index: RandomState::new(rt)?,
@@ -30,7 +30,7 @@ impl Seeds {
     }
 }
 
-/// The right and the duty to finish a request that was begun. It must be spent by `finish`.
+/// The right and the duty to finish a request that was begun. It must be used up by `finish`.
 #[must_use]
 pub struct Ticket {
     pub(crate) id: u64,
@@ -49,36 +49,39 @@ impl Model for Ticket {
 }
 
 impl Ticket {
-    /// Tells the request from the others in flight in its table.
+    /// Distinguishes the request from the others in flight in its table.
     pub fn id(&self) -> u64
         ensures { result ≡ self.now.id }
     {
         self.id
     }
 
-    /// The paths that the request is about, as they were when it began: of a move the old one and then the new one, of an exchange both, of a page
-    /// that of its folder and then that of each name, and last the ten that an open file may be hidden under, if it may.
+    /// The paths of the request, as they were when it began: for a move the source and then the target, for an exchange
+    /// both, for a page that of its folder and then that of each name. Last come the ten candidates under which an open
+    /// file may be hidden, if it may have to be.
     pub fn paths(&self) -> &[Path]
         ensures { result.now ≡ self.now.paths }
     {
         self.paths.as_slice()
     }
 
-    /// Whether it is a move of a path to itself, or an exchange of one with itself, which changes nothing.
+    /// Whether a path is moved to itself, or exchanged with itself, which changes nothing.
     pub fn same(&self) -> bool
         ensures { result ≡ self.now.same }
     {
         self.same
     }
 
-    /// Whether the file at the name that goes is open and may be hidden: the last ten paths are those that it may be moved to.
+    /// Whether the file at the name to be removed or replaced is open and may be hidden. The last ten paths are those
+    /// to which it may be moved.
     pub fn hide(&self) -> bool
         ensures { result ≡ self.now.hide }
     {
         self.hide
     }
 
-    /// Whether it closed the last opening of a hidden file, which the end of its work removes: the one path is that of the file.
+    /// Whether the request closed the last handle of a hidden file, which the end of its work removes. The only path is
+    /// that of the file.
     pub fn last(&self) -> bool
         ensures { result ≡ self.now.last }
     {
@@ -86,35 +89,36 @@ impl Ticket {
     }
 }
 
-/// How a request was taken up.
+/// The answer to a begin.
 pub enum Begin {
-    /// It may go on. Its end takes no memory.
+    /// The request may go on. Its end does not allocate.
     Go(Ticket),
-    /// Another request holds a name that this one needs: begin again later.
+    /// Another request holds a name that this one needs; begin again later.
     Busy,
-    /// It may not: an error number of Linux.
+    /// The request was refused with this error number of Linux.
     Refused(i32),
 }
 
-/// What a request came to.
+/// The result of the work on a request.
 #[derive(Drop)]
 pub enum Outcome {
     /// It failed. An outcome that does not fit the want counts as this one.
     Failed,
-    /// It was done, and gives no entry.
+    /// It was done, and no entry is given.
     Done,
-    /// Its name is there, and the client is given an entry of it.
+    /// Its name exists, and the client is given an entry for it.
     Entry,
-    /// Of a page: which of its names are there. The client is given an entry of each of them that no other request holds exclusively.
+    /// For a page: which of its names exist. The client is given an entry for each of these that no other request holds
+    /// exclusively.
     Entries(FoundNames),
-    /// Of a removal: what stood at its name was moved to the candidate of that index, counted from 0.
+    /// For a removal: what was at its name was moved to the candidate with this index, counted from 0.
     Hidden(u8),
-    /// Of a move: what stood at its target was moved to the candidate of that index, counted from 0, and then,
-    /// if `moved`, its source to its target.
+    /// For a move: what was at its target was moved to the candidate with this index, counted from 0, and then, if
+    /// `moved`, its source to its target.
     HiddenMove { candidate: u8, moved: bool },
 }
 
-/// What a finished request gives to the client. It must be spent by `Table::settle`, or by `leave`.
+/// What a finished request gives to the client. It must be used up by `Table::settle`, or by `leave`.
 #[must_use]
 pub struct Answered {
     pub(crate) id: u64,
@@ -132,28 +136,28 @@ impl Model for Answered {
 }
 
 impl Answered {
-    /// Tells the request from the others in flight in its table.
+    /// Distinguishes the request from the others in flight in its table.
     pub fn id(&self) -> u64
         ensures { result ≡ self.now.id }
     {
         self.id
     }
 
-    /// For each name of the request the node that is given to the client. It counts until it is settled as untaken.
+    /// The node given to the client for each name of the request. Each counts until it is settled as untaken.
     pub fn given(&self) -> &[Option<Given>]
         ensures { result.now ≡ self.now.given }
     {
         self.given.as_slice()
     }
 
-    /// Whether its ticket was of no request that the table works on.
+    /// Whether its ticket belonged to no request in progress.
     pub fn lost(&self) -> bool
         ensures { result ≡ self.now.lost }
     {
         self.lost
     }
 
-    /// The handle of the file that was opened. It is closed where the reply is settled as untaken.
+    /// The handle of the file that was opened. It is closed if the reply is settled as untaken.
     pub fn opened(&self) -> Option<u64>
         ensures { result ≡ self.now.opened }
     {
@@ -195,7 +199,7 @@ impl Settled {
         self.id
     }
 
-    /// How many entries its answer listed.
+    /// How many entries were in its answer.
     pub fn entries(&self) -> u64
         ensures { result ≡ self.now.entries }
     {

@@ -1,4 +1,4 @@
-//! Entries of names that are given to the client.
+//! Entries for names, which are given to the client.
 
 ghost use Rattle.std.specs.Prelude.{◌≡◌, ◌≤◌, ◌<◌, ◌+◌, ◌^◌, ℕ};
 ghost use Rattle.ledger.specs.Sums.{totals_over};
@@ -14,7 +14,7 @@ use table_files::Files;
 use table_requests::{Given, RequestsInFlight};
 use tree::{Key, Tree};
 
-/// Counts one more entry of the node that is named so, and posts it.
+/// Counts one more entry of the node with this name, and posts it.
 fn enter_again(
     tree: &mut Tree,
     ledger: &mut Ledger,
@@ -40,7 +40,7 @@ fn enter_again(
     Given { number, generation }
 }
 
-/// Bears a node at the name, and counts its first entry.
+/// Creates a node with this name, and counts its first entry.
 fn create(
     tree: &mut Tree,
     ledger: &mut Ledger,
@@ -70,7 +70,7 @@ fn create(
     Given { number, generation }
 }
 
-/// Gives an entry of the name: of the node that stands there, which may be the one that is guessed, or of one that is born.
+/// Gives an entry for the name: of the node with this name, which may be the guessed one, or of a new node.
 pub(crate) fn enter(
     tree: &mut Tree,
     ledger: &mut Ledger,

@@ -18,7 +18,7 @@ use crate::sweep::sweep_change;
 use table_requests::{Givens, Work};
 use terms::Counts;
 
-/// The same answer with the handle of the file that was opened.
+/// The same answer, with the handle of the file that was opened.
 fn with_file(answered: Answered, opened: Option<u64>) -> Answered
     ensures { result ≡ record answered { opened = opened } }
 {
@@ -37,7 +37,7 @@ fn with_file(answered: Answered, opened: Option<u64>) -> Answered
 }
 
 impl State {
-    /// Cuts, moves or hides names, with all below them, and drops what nothing keeps any more.
+    /// Cuts, moves or hides names, with everything below them, and drops what nothing keeps alive any more.
     fn change(&mut self, change: NameChange)
         requires kept { IsKept self.old }
         requires may { MayAlter self.old (change_in change) }
@@ -53,7 +53,7 @@ impl State {
         sweep_change(&mut self.tree, &self.flights, &self.files, losing);
     }
 
-    /// What the outcome of a request does, whose work has ended. One that does not fit its want does nothing.
+    /// Carries out the outcome of a request whose work has ended. An outcome that does not fit its want does nothing.
     fn end(&mut self, id: u64, work: Work, outcome: Outcome) -> Answered
         requires kept { IsKept self.old }
         requires ending { IsEnding self.old id work }
@@ -100,7 +100,7 @@ impl State {
         }
     }
 
-    /// Ends the work on a request: the client is given entries of its names, or its names change, or nothing is done.
+    /// Ends the work on a request: the client is given entries for its names, or its names change, or nothing is done.
     pub fn finish(&mut self, ticket: Ticket, outcome: Outcome) -> Answered
         requires kept { IsKept self.old }
         requires room { self.old.limits.counts ≡ Counts.Free → most_posted_by ((requests_of self.old.flights).at ticket.id) ≤ self.old.ledger.room }
@@ -114,6 +114,8 @@ impl State {
             hide: _,
             last: _,
         } = ticket;
+        // The id and the want recorded under it decide, so a ticket of another table acts on what this table has under
+        // its id.
         let Some(work) = self.flights.answer(id) else {
             return Answered {
                 id,

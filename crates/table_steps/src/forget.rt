@@ -1,4 +1,4 @@
-//! FORGET: the client gives lookups of a node back.
+//! FORGET: the client drops lookups of a node.
 
 ghost use Rattle.std.specs.Prelude.{◌≡◌, ◌<◌};
 ghost use Rattle.table_steps.specs.Steps.{Forgets};
@@ -10,7 +10,7 @@ use ledger::Posting;
 use terms::Counts;
 
 impl State {
-    /// Takes the smaller of `n` and the node's count from it, and says how much.
+    /// Takes the smaller of `n` and the node's count from the count, and returns it.
     pub fn forget(&mut self, number: u64, n: u64) -> u64
         requires kept { IsKept self.old }
         requires room { self.old.limits.counts ≡ Counts.Free → 0 < self.old.ledger.room }

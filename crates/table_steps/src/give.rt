@@ -21,11 +21,12 @@ use holds::Held;
 use paths::Path;
 use table_requests::{Given, Givens};
 
-/// Where a request's pins have the node that stood at its first name as it began, if one did: behind the node that its name is under.
+/// The index, among a request's pins, of the node that its first name had when it began, if it had one. The node of the
+/// parent comes before it.
 const FIRST_FOUND: usize = 1;
 
 impl EnteredNames {
-    /// How many names they are.
+    /// How many names there are.
     fn len(&self) -> usize
         ensures { result ≡ length (keys_in self.now) }
     {
@@ -60,7 +61,7 @@ pub(crate) fn give_none(
     }
 }
 
-/// The path of the one node that a request names.
+/// The path of the only node that a request names.
 fn path_of(held: &Held) -> &Path
     requires { length held.now.given ≡ 1 }
     ensures { (lead : Lead) → held.now.given ≡ lead ∷ [] → result.now ≡ lead.path }
@@ -69,7 +70,7 @@ fn path_of(held: &Held) -> &Path
 }
 
 impl State {
-    /// Gives an entry of the name, and lets the request pin its node, which is likely the one that it pinned at that place.
+    /// Gives an entry for the name, and pins its node for the request. It is probably the node pinned at this index.
     fn give(&mut self, id: u64, keys: Keys, place: usize) -> Given
         requires kept { IsKept self.old }
         requires may { MayEnter self.old id (keys.key ∷ []) }
@@ -81,6 +82,7 @@ impl State {
         ensures promised { (requests_of self.new.flights).files ≡ (requests_of self.old.flights).files }
         ensures kept { IsKept self.new }
     {
+        // Comparing the name of that node is cheaper than looking the name up in the index, which would hash it.
         let guess = self.flights.pinned_at(id, place);
         let entered = enter(
             &mut self.tree,
@@ -95,7 +97,7 @@ impl State {
         entered
     }
 
-    /// Gives an entry of a name of a page, if it was found and no request that is worked on holds it exclusively.
+    /// Gives an entry for a name of a page, if it was found and no request in progress holds it exclusively.
     fn give_found(
         &mut self,
         id: u64,
@@ -115,14 +117,16 @@ impl State {
         if !found {
             return None;
         }
+        // The folder's recorded path is still its path, so no path is built here, and the end of a page does not
+        // allocate.
         if self.flights.holds_exclusively(folder, &keys.key.name) {
             return None;
         }
         Some(self.give(id, keys, place))
     }
 
-    /// Where the node of the next name was likely pinned, once that entry was given: nodes that stood at names of a page as it began were
-    /// pinned in the order of the names.
+    /// The index at which the node of the next name was probably pinned, after that entry was given: the nodes that
+    /// names of a page had when it began were pinned in the order of the names.
     fn next_found(&self, id: u64, place: usize, given: Option<Given>) -> usize {
         match (self.flights.pinned_at(id, place), given) {
             (Some(pinned), Some(given)) if pinned == given.number => place.saturating_add(1),
@@ -130,7 +134,7 @@ impl State {
         }
     }
 
-    /// Gives an entry of each name of the page that was found and that no request that is worked on holds exclusively.
+    /// Gives an entry for each name of the page that was found and that no request in progress holds exclusively.
     fn give_page(
         &mut self,
         id: u64,
@@ -174,7 +178,7 @@ impl State {
         }
     }
 
-    /// Gives an entry of the one name of a request that is no page.
+    /// Gives an entry for the only name of a request that is not a page.
     pub(crate) fn give_entry(
         &mut self,
         id: u64,
@@ -215,7 +219,7 @@ impl State {
         }
     }
 
-    /// Gives an entry of each name of a page that was found and that no request that is worked on holds exclusively.
+    /// Gives an entry for each name of a page that was found and that no request in progress holds exclusively.
     pub(crate) fn give_entries(
         &mut self,
         id: u64,

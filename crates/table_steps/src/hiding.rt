@@ -1,4 +1,4 @@
-//! What was to be cut or replaced, and is hidden in its place.
+//! Hiding what was to be cut or replaced.
 
 ghost use Rattle.std.specs.Prelude.{◌≡◌, option_map};
 ghost use Rattle.std.specs.List.{slice_get};
@@ -8,7 +8,7 @@ ghost use Rattle.table_steps.specs.Steps.{hiding_at, replacing_at};
 use crate::acts::NameChange;
 use crate::keys::{FolderKeys, Keys};
 
-/// The key of the name of that index, counted from 0, if there is one.
+/// The keys of the name with that index, counted from 0, if there is one.
 fn key_at(keys: FolderKeys, index: u8) -> Option<Keys>
     ensures { option_map keyed_name result ≡ slice_get (names_in keys) index }
 {
@@ -28,7 +28,7 @@ fn key_at(keys: FolderKeys, index: u8) -> Option<Keys>
     Some(Keys::new(folder, name, Some(copy)))
 }
 
-/// The candidate of that index, counted from 0, if there is one.
+/// The keys of the candidate with that index, counted from 0, if there is one.
 fn candidate_at(candidates: Option<FolderKeys>, index: u8) -> Option<Keys>
     ensures { option_map keyed_name result ≡ slice_get (candidates_in candidates) index }
 {
@@ -38,7 +38,7 @@ fn candidate_at(candidates: Option<FolderKeys>, index: u8) -> Option<Keys>
     }
 }
 
-/// What was to be cut is hidden under the candidate of that index. Where there is none, nothing changes.
+/// Instead of cutting, hides under the candidate with that index. If there is no such candidate, nothing changes.
 pub(crate) fn hide(change: NameChange, candidates: Option<FolderKeys>, index: u8) -> NameChange
     ensures { change_in result ≡ hiding_at (change_in change) (slice_get (candidates_in candidates) index) }
 {
@@ -51,8 +51,8 @@ pub(crate) fn hide(change: NameChange, candidates: Option<FolderKeys>, index: u8
     }
 }
 
-/// What was to be replaced is hidden under the candidate of that index, and then the move is made, if `moved`. Where there is
-/// no such candidate, nothing changes.
+/// Instead of replacing, hides what would be replaced under the candidate with that index, and then, if `moved`, makes
+/// the move. If there is no such candidate, nothing changes.
 pub(crate) fn replace(
     change: NameChange,
     candidates: Option<FolderKeys>,

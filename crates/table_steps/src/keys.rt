@@ -1,4 +1,4 @@
-//! The keys that a node is put into the tree under.
+//! The keys under which a node is put into the tree.
 
 ghost use Rattle.std.specs.Prelude.{◌≡◌, Some};
 
@@ -6,7 +6,7 @@ use paths::Name;
 use table_requests::Names;
 use tree::Key;
 
-/// The key of a name, twice: a node is put into the tree under two.
+/// The key of a name, twice: the tree needs one for the node and one for the index.
 #[derive(Drop)]
 pub(crate) struct Keys {
     pub(crate) key: Key,
@@ -29,7 +29,7 @@ impl Keys {
     }
 }
 
-/// Names in one folder, and the same names once more.
+/// Names in one folder, each twice.
 #[derive(Drop)]
 pub(crate) struct FolderKeys {
     pub(crate) folder: u64,

@@ -1,6 +1,6 @@
 //! The steps of a node table: nodes with lookup counts, their ledger, and the requests in flight.
 //!
-//! Each call on the parts is one atomic step, and keeps what holds of them.
+//! Each call on the parts is one atomic step, and keeps their invariants.
 #![tactic(auto)]
 
 mod acts;

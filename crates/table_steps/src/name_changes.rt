@@ -1,4 +1,4 @@
-//! Names that are taken away or moved in the tree.
+//! Cutting and moving names in the tree.
 
 ghost use Rattle.std.specs.Prelude.{◌≡◌, ◌≢◌, ◌⊎◌, ℤ};
 ghost use Rattle.table_steps.specs.Ending.{AreUnder, IsOver, IsUnder, KeepsChildren, change_in, loses, name_at};
@@ -13,7 +13,7 @@ use crate::keys::Keys;
 use crate::sweep::parent_of_node;
 use tree::{Key, Tree};
 
-/// Cuts what stands at the name, with all below it.
+/// Cuts what is at the name, with everything below it.
 fn cut_at(tree: &mut Tree, key: &Key)
     requires { Leads (at_in tree.old) key.now.parent }
     ensures cuts { Cuts (at_in tree.old) (name_at key.now) (at_in tree.new) }
@@ -30,7 +30,7 @@ fn cut_at(tree: &mut Tree, key: &Key)
     };
 }
 
-/// Cuts the node, with all below it.
+/// Cuts the node, with everything below it.
 fn cut_node(tree: &mut Tree, number: u64)
     requires leads { Leads (at_in tree.old) number }
     requires not_root { number ≢ 1 }
@@ -46,8 +46,8 @@ fn cut_node(tree: &mut Tree, number: u64)
     };
 }
 
-/// Moves what stands at the name to the other, with all below it, and cuts what stood there.
-/// Where nothing stands at the name, as where its parent is cut, what stands at the other is cut alone.
+/// Moves what is at the name to the other, with everything below it, and cuts what was there. If nothing is at the
+/// name, for instance since its parent is cut, then only what is at the other name is cut.
 fn move_at(tree: &mut Tree, key: &Key, target: Keys)
     requires target_leads { Leads (at_in tree.old) target.key.parent }
     requires may { (e : ℤ) → IsRefusedAt (at_in tree.old) (name_at key.now) (name_at target.key) e → ⊥ }
@@ -60,12 +60,13 @@ fn move_at(tree: &mut Tree, key: &Key, target: Keys)
 {
     match tree.find(key) {
         Some(number) => tree.relink(number, target.key, target.copy),
+        // The directory said that the rename was done, so the node at the target is gone.
         None => cut_at(tree, &target.key),
     }
 }
 
-/// Moves what stands at the name to the candidate, with all below it, cuts what stood there, and marks what stood at the name.
-/// Where nothing stands at the name, what stands at the candidate is cut alone.
+/// Moves what is at the name to the candidate, with everything below it, and marks it; what was at the candidate is
+/// cut. If nothing is at the name, then only what is at the candidate is cut.
 fn hide_at(tree: &mut Tree, key: &Key, candidate: Keys)
     requires leads { Leads (at_in tree.old) key.now.parent }
     requires candidate_leads { Leads (at_in tree.old) candidate.key.parent }
@@ -84,7 +85,7 @@ fn hide_at(tree: &mut Tree, key: &Key, candidate: Keys)
     }
 }
 
-/// Hides what stands at the target under the candidate, and then, if `moved`, moves what stood at the name to the target.
+/// Hides what is at the target under the candidate, and then, if `moved`, moves what was at the name to the target.
 fn replace_at(tree: &mut Tree, key: &Key, target: Keys, candidate: Keys, moved: bool)
     requires leads { Leads (at_in tree.old) key.now.parent }
     requires target_leads { Leads (at_in tree.old) target.key.parent }
@@ -103,7 +104,7 @@ fn replace_at(tree: &mut Tree, key: &Key, target: Keys, candidate: Keys, moved: 
     }
 }
 
-/// What stands at the two names, with all below, changes places.
+/// Exchanges what is at the two names, with everything below.
 fn exchange_at(tree: &mut Tree, source: Keys, target: Keys)
     requires tree { IsTree (at_in tree.old) }
     requires leads { Leads (at_in tree.old) source.key.parent }
@@ -118,7 +119,8 @@ fn exchange_at(tree: &mut Tree, source: Keys, target: Keys)
     tree.exchange(source.key, source.copy, target.key, target.copy);
 }
 
-/// The node that may lose its last child by the change, and need not be pinned: the parent of a node that is cut by its number.
+/// The node that may lose its last child by the change and need not be pinned: the parent of a node that is cut by its
+/// number.
 pub(crate) fn losing(tree: &Tree, change: &NameChange) -> Option<u64>
     ensures { result ≡ loses (at_in tree.now) (change_in change.now) }
 {
@@ -133,7 +135,7 @@ pub(crate) fn losing(tree: &Tree, change: &NameChange) -> Option<u64>
     }
 }
 
-/// Cuts, moves, hides, replaces or exchanges names, with all below them.
+/// Cuts, moves, hides, replaces or exchanges names, with everything below them.
 pub(crate) fn alter(tree: &mut Tree, change: NameChange)
     requires tree { IsTree (at_in tree.old) }
     requires leads { AreUnder (Leads (at_in tree.old)) (change_in change) }

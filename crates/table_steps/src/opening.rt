@@ -1,4 +1,4 @@
-//! Files that are opened.
+//! Opening files.
 
 ghost use Rattle.std.specs.Prelude.{◌≡◌, ◌+◌};
 ghost use Rattle.table_files.specs.OpenEntry.{files_of};
@@ -12,7 +12,7 @@ use table_files::{Access, OpenFile};
 use table_requests::Given;
 
 impl State {
-    /// Opens a file of the node under the next handle, which the request notes, and gives the handle.
+    /// Opens a file of the node under the next handle, notes the handle for the request, and returns it.
     pub(crate) fn open_file(&mut self, id: u64, number: u64, access: Access) -> u64
         requires kept { IsKept self.old }
         requires alive { IsAlive (at_in self.old.tree) number }
@@ -48,7 +48,7 @@ impl State {
         }
     }
 
-    /// Opens the file of the node that was given, if one may be opened.
+    /// Opens a file of the node that was given, if one may be opened.
     pub(crate) fn open_given(
         &mut self,
         id: u64,

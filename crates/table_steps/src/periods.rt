@@ -15,7 +15,7 @@ use std::mem;
 use terms::Counts;
 use tree::{Node, Tree};
 
-/// The node that bears the number.
+/// The node with this number.
 fn node_at(tree: &Tree, number: u64) -> &Node
     requires { IsAlive (at_in tree.now) number }
     ensures { at_in tree.now number ≡ Some result.now }
@@ -26,7 +26,7 @@ fn node_at(tree: &Tree, number: u64) -> &Node
     }
 }
 
-/// What is left of each node but the root is what the period begins with, by rising number.
+/// Opens the period with what is left of each node except the root, by rising number.
 fn open_living(tree: &Tree, next: &mut NextPeriod)
     requires none { next.old.made.last ≡ [] }
     requires room { tree.now.living ≤ next.old.room + 1 }
@@ -47,8 +47,8 @@ fn open_living(tree: &Tree, next: &mut NextPeriod)
 }
 
 impl State {
-    /// Ends a period: births and totals are kept, and what is left of each node becomes what the next one begins with. Answers by
-    /// how many postings the ledger became shorter. It takes no memory.
+    /// Ends a period: births and totals are kept, and what is left of each node is what the next period begins with.
+    /// Returns how many postings the ledger became shorter by. It does not allocate.
     pub fn close_period(&mut self) -> u64
         requires { IsKept self.old }
         ensures closes { ClosesPeriod (world_of self.old) result (world_of self.new) }
@@ -66,7 +66,8 @@ impl State {
         (made - self.ledger.made()) as u64
     }
 
-    /// Makes room for so many postings of a call: where counts are free and there is none, the period ends. It takes no memory.
+    /// Makes room for the `n` postings of a call: if counts are free and there is no room, the period ends. It does not
+    /// allocate.
     pub fn make_room(&mut self, n: u64)
         requires kept { IsKept self.old }
         requires few { self.old.limits.counts ≡ Counts.Free → self.old.tree.living + n ≤ self.old.limits.postings + 1 }
@@ -81,10 +82,12 @@ impl State {
         if n <= self.ledger.room() as u64 {
             return;
         }
+        // This costs one step per node, and comes only after at least as many postings: so it costs a constant per
+        // posting.
         self.close_period();
     }
 
-    /// Makes room for the postings of the next call on the request: the end of its work, or its settle.
+    /// Makes room for the postings of the next call on the request, which is the end of its work or its settle.
     pub fn make_room_for(&mut self, id: u64)
         requires kept { IsKept self.old }
         ensures makes { MakesRoom (world_of self.old) (most_posted (world_of self.old).flights id) (world_of self.new) }

@@ -1,4 +1,4 @@
-//! The end of a request whose reply was sent, or was not.
+//! The end of a request, after its reply was taken or was not.
 
 ghost use Rattle.std.specs.Prelude.{◌≡◌, ◌<◌, ◌≤◌, ◌+◌, ◌⊎◌, drop, length};
 ghost use Rattle.table_requests.specs.Listed.{requests_of};
@@ -20,7 +20,7 @@ use table_requests::{EndedRequest, RequestsInFlight};
 use terms::Counts;
 use tree::Tree;
 
-/// Takes an entry of the node back, if its count is above 0.
+/// Takes back an entry of the node, if its count is above 0.
 fn take_back(
     tree: &mut Tree,
     ledger: &mut Ledger,
@@ -53,7 +53,7 @@ fn take_back(
     ledger.post(Posting::Back { number, generation });
 }
 
-/// Takes an entry of each of the nodes back in turn, from that place on.
+/// Takes back an entry of each of the nodes in turn, from that index on.
 fn take_all_back(
     tree: &mut Tree,
     ledger: &mut Ledger,
@@ -76,14 +76,15 @@ fn take_all_back(
     }
 }
 
-/// From where on the entries go back, of those that a request gave after it pinned so many: from the end where the reply was taken.
+/// The index among the pins from which entries are taken back. The entries that the request gave begin at `before`; if
+/// the reply was taken, none is taken back.
 fn untaken_from(pins: &[u64], before: usize, taken: bool) -> usize
     ensures { drop result pins.now ≡ untaken_of taken (drop before pins.now) }
 {
     if taken { pins.len() } else { before }
 }
 
-/// The handle that is closed: none where the reply was taken.
+/// The handle that is closed, or none if the reply was taken.
 fn untaken_file(opened: Option<u64>, taken: bool) -> Option<u64>
     ensures { result ≡ untaken_file taken opened }
 {
@@ -91,8 +92,8 @@ fn untaken_file(opened: Option<u64>, taken: bool) -> Option<u64>
 }
 
 impl State {
-    /// Ends a request: its record goes, and what it gave and opened is taken back if the reply was not taken. What that is
-    /// its record says, not the answer.
+    /// Ends a request: its record is removed, and what it gave and opened is taken back if the reply was not taken. The
+    /// record says what that is, not the answer.
     pub fn settle(&mut self, answered: Answered, taken: bool) -> Settled
         requires kept { IsKept self.old }
         requires room { self.old.limits.counts ≡ Counts.Free → most_posted_by ((requests_of self.old.flights).at answered.id) ≤ self.old.ledger.room }

@@ -29,7 +29,7 @@ pub struct State {
     pub counter: u32,
 }
 
-/// A ledger without postings, with the room that it has from the start.
+/// A ledger without postings, with the room that it has from the beginning.
 fn open_ledger(alloc: Global, limits: &Limits) -> Result<Ledger, AllocError>
     ensures made { IfOk result (λ ledger. ledger.made ≡ unclosed []) }
     ensures limit { IfOk result (λ ledger. ledger.limit ≡ limits.now.postings) }
@@ -46,7 +46,7 @@ fn open_ledger(alloc: Global, limits: &Limits) -> Result<Ledger, AllocError>
 }
 
 impl State {
-    /// The root alone. Where counts are free, all room for a period's postings is made here.
+    /// A table with only the root. If counts are free, all the room for a period's postings is made here.
     pub fn open(alloc: Global, limits: Limits, seeds: Seeds) -> Result<State, AllocError>
         requires root { 1 ≤ limits.nodes }
         requires free { limits.counts ≡ Counts.Free → limits.nodes ≤ limits.postings }
@@ -67,7 +67,7 @@ impl State {
         })
     }
 
-    /// Between any two calls the law holds.
+    /// For the prover: between any two calls the law holds.
     pub fn attest(&self)
         requires { IsWhole self.now }
         ensures { IsLawfulWorld (world_of self.now) }

@@ -1,4 +1,4 @@
-//! Dropping nodes that nothing keeps.
+//! Dropping nodes that nothing keeps alive.
 
 ghost use Rattle.std.specs.Prelude.{true, false, ◌≡◌, ◌≤◌, ◌<◌, ◌+◌, ◌⊎◌, ℕ, Some, None, IfNone, IfSome, MatchOption, [], ◌∷◌, ◌++◌};
 ghost use Rattle.table_law.specs.Law.{HasReason, HaveReasons};
@@ -19,7 +19,7 @@ fn is_kept(flights: &RequestsInFlight, files: &Files, number: u64) -> bool
     flights.pins(number) || files.is_open(number)
 }
 
-/// Whether something keeps the node.
+/// Whether something keeps the node alive.
 fn is_needed(
     tree: &Tree,
     flights: &RequestsInFlight,
@@ -45,7 +45,7 @@ fn is_needed(
     tree.has_child(number)
 }
 
-/// The number that the node stands under.
+/// The number of the node's parent.
 fn parent_of(place: &Place) -> Option<u64>
     ensures { result ≡ parent_in place.now }
 {
@@ -55,7 +55,7 @@ fn parent_of(place: &Place) -> Option<u64>
     }
 }
 
-/// The same of the node of that number, if it lives.
+/// The number of the parent of the node with that number, if it is alive.
 pub(crate) fn parent_of_node(tree: &Tree, number: u64) -> Option<u64>
     ensures { result ≡ parent_at (at_in tree.now number) }
 {
@@ -65,7 +65,7 @@ pub(crate) fn parent_of_node(tree: &Tree, number: u64) -> Option<u64>
     }
 }
 
-/// Drops the node if nothing keeps it, and gives the number of its parent.
+/// Drops the node if nothing keeps it alive, and returns the number of its parent.
 fn drop_needless(
     tree: &mut Tree,
     flights: &RequestsInFlight,
@@ -90,7 +90,7 @@ fn drop_needless(
     parent
 }
 
-/// Drops the node if nothing keeps it, then its parent, and so on. The nodes pinned may lack a reason.
+/// Drops the node if nothing keeps it alive, then its parent, and so on. The nodes in `pins` may lack a reason.
 pub fn sweep(tree: &mut Tree, flights: &RequestsInFlight, files: &Files, number: u64, pins: &[u64])
     requires { IsPruned (at_in tree.old) (kept_by flights.now files.now) (number ∷ pins.now) }
     ensures pruned { IsPruned (at_in tree.new) (kept_by flights.now files.now) pins.now }
@@ -103,7 +103,7 @@ pub fn sweep(tree: &mut Tree, flights: &RequestsInFlight, files: &Files, number:
     }
 }
 
-/// Drops what nothing keeps of the nodes pinned, and then of their parents.
+/// Drops those of the pinned nodes that nothing keeps alive any more, and then those of their parents.
 pub fn sweep_pins(tree: &mut Tree, flights: &RequestsInFlight, files: &Files, pins: &[u64])
     requires { IsPruned (at_in tree.old) (kept_by flights.now files.now) pins.now }
     ensures pruned { IsPruned (at_in tree.new) (kept_by flights.now files.now) [] }
@@ -117,7 +117,7 @@ pub fn sweep_pins(tree: &mut Tree, flights: &RequestsInFlight, files: &Files, pi
     }
 }
 
-/// Drops the node if it is cut and nothing keeps it.
+/// Drops the node if it is cut and nothing keeps it alive.
 fn drop_cut(
     tree: &mut Tree,
     flights: &RequestsInFlight,
@@ -146,7 +146,7 @@ fn drop_cut(
     tree.drop_node(number);
 }
 
-/// Drops each node that was newly cut and that nothing keeps. No node loses a child by it. One node may lack a reason.
+/// Drops each newly cut node that nothing keeps alive. No node loses a child by this. One node may lack a reason.
 fn sweep_cut(tree: &mut Tree, flights: &RequestsInFlight, files: &Files, but: Option<u64>)
     requires tree { IsTree (at_in tree.old) }
     requires aside { HaveReasonsAside (at_in tree.old) (kept_by flights.now files.now) but tree.old.newly_cut }
@@ -160,8 +160,8 @@ fn sweep_cut(tree: &mut Tree, flights: &RequestsInFlight, files: &Files, but: Op
     }
 }
 
-/// Drops each node that was newly cut and that nothing keeps, and then the one that may have lost its last child, if there is one, its
-/// parent, and so on.
+/// Drops each newly cut node that nothing keeps alive. Then does so for the node that may have lost its last child, if
+/// there is one, its parent, and so on.
 pub fn sweep_change(tree: &mut Tree, flights: &RequestsInFlight, files: &Files, losing: Option<u64>)
     requires tree { IsTree (at_in tree.old) }
     requires aside { HaveReasonsAside (at_in tree.old) (kept_by flights.now files.now) losing tree.old.newly_cut }

@@ -5,7 +5,7 @@ use Rattle.terms.specs.declared.limits.Limits.{Limits}
 use Rattle.terms.specs.declared.limits.Counts.{Counts}
 use Rattle.terms.specs.declared.limits.Counts.TheVariants.{Bounded, Free}
 
--- where counts are free a period may have at least two postings a node
+-- if counts are free, a period may have at least two postings per node
 abbrev pub postings_of : Counts → (nodes postings : ℕ) → ℕ
 postings_of Bounded nodes postings = postings
 postings_of Free nodes postings = max postings (2 * nodes)

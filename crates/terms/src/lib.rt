@@ -1,5 +1,5 @@
-//! What a session is served by: how far its table may grow, and whose attributes it tells. Types that the command line and the layers below
-//! it share, so that neither waits for the other in the build.
+//! The settings of a session: how far its table may grow, and whose attributes it reports. The command line and the
+//! layers below it share these types, so that neither waits for the other in the build.
 #![tactic(auto)]
 
 mod limits;

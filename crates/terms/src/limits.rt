@@ -5,22 +5,22 @@ ghost use Rattle.std.specs.Prelude.{◌≡◌};
 /// What bounds the lookup counts.
 #[derive(Clone, Copy, Debug, PartialEq, Eq)]
 pub enum Counts {
-    /// The postings of a period: there is room for one by which each of them may be forgotten.
+    /// The postings of a period: room is kept for forgetting each lookup with a posting of its own.
     Bounded,
-    /// 64 bits alone: where a call has no room for its postings, the period ends before it.
+    /// Only 64 bits: if a call has no room for its postings, the period ends first.
     Free,
 }
 
 /// How far a table may grow.
 #[derive(Clone, Copy, Debug, PartialEq, Eq)]
 pub struct Limits {
-    /// Living nodes, with the root and with those that requests in flight were promised: at least 1.
+    /// Living nodes, including the root and those that requests in flight were promised: at least 1.
     pub nodes: u64,
-    /// Postings of a period, with those by which all counts may be taken back where these are bounded. Where they are free, at least as
-    /// many as nodes: so many may be carried into the next period.
+    /// Postings of a period. If counts are bounded, this includes those that take back all counts. If they are free, it
+    /// is at least the maximum number of nodes, since that many may be carried over into the next period.
     pub postings: u64,
     pub counts: Counts,
-    /// Requests in flight, those whose reply is not settled yet among them.
+    /// Requests in flight, including those whose reply is not settled yet.
     pub flights: u64,
     /// Open files.
     pub files: u64,

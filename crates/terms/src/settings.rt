@@ -1,10 +1,11 @@
-//! Whose attributes a session tells.
+//! Whose attributes a session reports.
 
-/// Whose attributes a session tells.
+/// Whose attributes a session reports.
 #[derive(Clone, Copy, Debug, PartialEq, Eq)]
 pub enum Settings {
-    /// All is of this owner, with fixed permission bits, at the beginning of 1970, and the inode number is the node's. A SETATTR may set a size alone.
+    /// Everything belongs to this owner, has fixed permission bits and times at the beginning of 1970, and its inode
+    /// number is its node number. A SETATTR may set only the size.
     Fixed { uid: u32, gid: u32 },
-    /// Those that the directory tells, and a SETATTR may set them.
+    /// The attributes that the directory reports. A SETATTR may set them.
     Host,
 }

@@ -1,4 +1,4 @@
-//! What a session is served by.
+//! The settings of a session.
 
 ghost use Rattle.std.specs.Prelude.{◌≡◌, ◌≤◌};
 ghost use Rattle.terms.specs.Limits.{limits_of};
@@ -9,15 +9,15 @@ use crate::settings::Settings;
 /// How far the table of a session may grow (own).
 #[derive(Clone, Copy, Debug, PartialEq, Eq)]
 pub struct Bounds {
-    /// How many nodes may be known at a time, with the root, for which there is room in any case.
+    /// How many nodes may be known at a time, including the root, which always has room.
     pub nodes: u32,
     /// How many files may be open at a time.
     pub files: u32,
-    /// How many requests may be in flight, those whose reply is not settled yet among them.
+    /// How many requests may be in flight, including those whose reply is not settled yet.
     pub requests: u32,
-    /// How many postings a period of the ledger may have; where counts are free, at least two a node.
+    /// How many postings a period of the ledger may have; if counts are free, at least two per node.
     pub postings: u32,
-    /// What bounds the lookup counts: the postings of a period, or 64 bits alone.
+    /// What bounds the lookup counts: the postings of a period, or only 64 bits.
     pub counts: Counts,
 }
 
@@ -37,10 +37,10 @@ impl Default for Bounds {
     }
 }
 
-/// What a session is served by, beside its link and its folder.
+/// The settings of a session, apart from its link and its folder.
 #[derive(Clone, Copy, Debug, PartialEq, Eq)]
 pub struct Terms {
-    /// Whom all of the folder is told to belong to.
+    /// Whose attributes the replies report.
     pub settings: Settings,
     /// How far the table may grow.
     pub bounds: Bounds,

@@ -1,4 +1,4 @@
-//! Calls written as words, and answers as text.
+//! Calls as words, and answers as text.
 
 use crate::details::{call_that_sets, mode_told, octal, times_told};
 use backing::{Answer, Call, Calls, Child, Kind};
@@ -22,7 +22,8 @@ fn number(text: &str) -> u64 {
     text.parse::<u64>().unwrap_or(0)
 }
 
-/// The call of that name on the path. A rename is to the other path, with which an exchange is, and `first` and `second` are its numbers or bytes.
+/// The call with that name on the path. For a rename or an exchange the other path is its second one, and `first` and
+/// `second` are its numbers or bytes.
 fn call_of<'a>(
     name: &str,
     path: &'a Path,
@@ -74,12 +75,12 @@ fn call_of<'a>(
     })
 }
 
-/// The byte that a file is filled with at that place. It is not the same 4,096 or 65,536 bytes later.
+/// The byte with which a file is filled at that offset. It differs from the ones 4,096 and 65,536 bytes later.
 fn filling(place: u64) -> u8 {
     (place % 251) as u8
 }
 
-/// The answer to one call that fills so many bytes of the file.
+/// The answer to one call that fills that many bytes of the file.
 fn fill<C: Calls>(
     alloc: Global,
     calls: &mut C,
@@ -95,7 +96,7 @@ fn fill<C: Calls>(
     shown(alloc, calls.call(Call::Write { path, offset, data }))
 }
 
-/// How many of the bytes are what a file is filled with from that place on.
+/// How many of the bytes are those with which a file is filled, from that offset on.
 fn count_filled(bytes: &[u8], offset: u64) -> u64 {
     let mut place = offset;
     let mut right = 0u64;
@@ -108,7 +109,7 @@ fn count_filled(bytes: &[u8], offset: u64) -> u64 {
     right
 }
 
-/// How many bytes one call reads, and how many of them are what the file was filled with.
+/// How many bytes one call reads, and how many of them are those with which the file was filled.
 fn check<C: Calls>(
     alloc: Global,
     calls: &mut C,
@@ -126,8 +127,9 @@ fn check<C: Calls>(
     }
 }
 
-/// The answer to a call that is written as its name, its paths and its numbers or bytes, with a space between them. Of many bytes,
-/// `fill` writes them in one call, and `check` reads them in one. `mode` and `times` tell some of what a STAT tells.
+/// The answer to a call that is written as its name, its paths and its numbers or bytes, separated by spaces. For many
+/// bytes, `fill` writes them in one call, and `check` reads them in one. `mode` and `times` show parts of what a STAT
+/// reports.
 pub fn ask<C: Calls>(alloc: Global, calls: &mut C, words: &str) -> Result<String, AllocError> {
     let mut parts = words.split(' ');
     let name = parts.next().unwrap_or("");
@@ -148,7 +150,7 @@ pub fn ask<C: Calls>(alloc: Global, calls: &mut C, words: &str) -> Result<String
     }
 }
 
-/// The answer as text; the names of a listing in the order of their bytes.
+/// The answer as text; the names of a listing are sorted by bytes.
 fn shown(alloc: Global, answer: Answer) -> Result<String, AllocError> {
     match answer {
         Answer::Done => String::from_str(alloc, "done"),
@@ -200,7 +202,7 @@ fn hexadecimal(alloc: Global, bytes: &[u8]) -> Result<String, AllocError> {
     Ok(text)
 }
 
-/// The call has its answer.
+/// Checks that the call has this answer.
 pub fn expect<C: Calls>(
     alloc: Global,
     calls: &mut C,
@@ -214,7 +216,7 @@ pub fn expect<C: Calls>(
     Err(Fail::from((words, told)))
 }
 
-/// So many failures were counted.
+/// Checks that that many failures were counted.
 pub fn expect_count(told: u64, wanted: u64) -> Result<(), Fail> {
     if told == wanted {
         return Ok(());
@@ -222,7 +224,7 @@ pub fn expect_count(told: u64, wanted: u64) -> Result<(), Fail> {
     Err(Fail::from(("counted", told)))
 }
 
-/// Each call has its answer.
+/// Checks that each call has its answer.
 pub fn expect_rows<C: Calls>(
     alloc: Global,
     calls: &mut C,

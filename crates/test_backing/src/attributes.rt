@@ -1,4 +1,4 @@
-//! What is told of a file or a folder beside its kind and its size, and what sets it.
+//! The details of a file or a folder, and the calls that set them.
 
 use crate::rows::{tell_folder, tell_hold, tell_tree};
 use crate::sample_trees::sample_folder;
@@ -6,7 +6,7 @@ use crate::telling::{Item, Step, tell};
 use std::fs;
 use std::test::Fail;
 
-/// What each directory answers. The calls that set details leave names, kinds and bytes.
+/// What each directory answers. The calls that set details do not change names, kinds and bytes.
 const ALIKE: &[(&str, &str)] = &[
     ("make f 600", "done"),
     ("make f 600", "fault 17"),
@@ -132,7 +132,7 @@ fn owners_and_times_are_set(rt: HostRuntime) -> Result<(), Fail> {
     tell(rt, "times", STEPS)
 }
 
-/// A file that stays open for the next call on it is changed through it.
+/// If a file stays open for the next call on it, that call changes it through the open file.
 #[test]
 fn a_file_that_is_kept_open_is_changed(rt: HostRuntime) -> Result<(), Fail> {
     const STEPS: &[Step] = &[

@@ -1,20 +1,20 @@
-//! Words of the calls that set details, and details as text.
+//! Words for the calls that set details, and details as text.
 
 use backing::{Answer, Call, NewTime, Time};
 use paths::Path;
 use std::alloc::{AllocError, Global};
 
-/// Permission bits in octal, if any are written.
+/// Permission bits in octal, if there are any.
 pub fn octal(text: &str) -> Option<u32> {
     u32::from_str_radix(text, 8).ok()
 }
 
-/// An owner or a group, and none for `-`.
+/// An owner or a group, or none for `-`.
 fn owner(text: &str) -> Option<u32> {
     text.parse::<u32>().ok()
 }
 
-/// Seconds and nanoseconds with a `.` between them.
+/// Seconds and nanoseconds, separated by a `.`.
 fn time(text: &str) -> Option<Time> {
     let (seconds, nanos) = text.split_once('.')?;
     Some(Time {
@@ -23,7 +23,7 @@ fn time(text: &str) -> Option<Time> {
     })
 }
 
-/// What a time is set to: `now`, a time, or none for `-`.
+/// The value that a time is set to: `now`, a time, or none for `-`.
 fn new_time(text: &str) -> Option<NewTime> {
     if text == "now" {
         return Some(NewTime::Now);
@@ -31,7 +31,7 @@ fn new_time(text: &str) -> Option<NewTime> {
     Some(NewTime::At(time(text)?))
 }
 
-/// The call of that name which sets details of what stands at the path.
+/// The call with that name which sets details of what is at the path.
 pub fn call_that_sets<'a>(
     name: &str,
     path: &'a Path,
@@ -57,7 +57,7 @@ pub fn call_that_sets<'a>(
     })
 }
 
-/// The permission bits of a STAT in octal.
+/// The permission bits in a STAT, in octal.
 pub fn mode_told(alloc: Global, answer: Answer) -> Result<String, AllocError> {
     match answer {
         Answer::Stat { details, .. } => format!(in alloc; "{:o}", details.permissions),
@@ -66,7 +66,7 @@ pub fn mode_told(alloc: Global, answer: Answer) -> Result<String, AllocError> {
     }
 }
 
-/// When it was last read and when it was last changed, by a STAT.
+/// The times of the last read and the last change in a STAT.
 pub fn times_told(alloc: Global, answer: Answer) -> Result<String, AllocError> {
     match answer {
         Answer::Stat { details, .. } => {

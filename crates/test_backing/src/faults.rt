@@ -16,21 +16,21 @@ use std::{fs, io};
 /// What goes wrong.
 #[derive(Clone, Copy)]
 enum Trick {
-    /// Each `lstat` fails so.
+    /// Each `lstat` fails like this.
     Look(ErrorKind),
     /// The file `a` becomes a link to another file before it is opened.
     Replace,
-    /// A file comes into a folder right before the folder is removed.
+    /// A file is created in a folder right before the folder is removed.
     Enter,
-    /// A file comes to a path right before something is renamed to it.
+    /// A file is created at a path right before something is renamed to it.
     Arrive,
-    /// Nothing may be opened, and the file `e` is somebody else's.
+    /// Nothing may be opened, and the file `e` belongs to another user.
     Shut,
-    /// No look at the folder `d` succeeds once the file `e` is gone.
+    /// No `lstat` of the folder `d` succeeds after the file `e` is gone.
     Blind,
 }
 
-/// The system, but for the trick.
+/// The system with this trick.
 #[derive(Clone, Copy)]
 struct Tricked {
     rt: HostRuntime,
@@ -38,7 +38,7 @@ struct Tricked {
 }
 
 impl Tricked {
-    /// Makes a link of the file, if it is `a`.
+    /// Replaces the file by a link, if it is `a`.
     fn replace(&self, path: &str) -> io::Result<()> {
         if path.ends_with("/a") {
             fs::remove_file(&self.rt, path)?;
@@ -47,7 +47,7 @@ impl Tricked {
         Ok(())
     }
 
-    /// Puts the file into the folder, if that is the trick.
+    /// Creates the file in the folder, if that is the trick.
     fn enter(&self, folder: &str) -> io::Result<()> {
         match self.trick {
             Trick::Enter => {
@@ -80,7 +80,7 @@ impl Alloc for Tricked {
     }
 }
 
-/// It stands still, at half a second past a billion seconds.
+/// Its clock does not move: it shows half a second after a billion seconds.
 impl Clock for Tricked {
     fn monotonic(&self) -> io::Result<Duration> {
         self.since_1970()
@@ -168,7 +168,7 @@ impl Files for Tricked {
     }
 }
 
-/// The calls have these answers, and so many of them are counted as failures.
+/// Checks that the calls have these answers, and that that many of them are counted as failures.
 fn ask_all(
     alloc: Global,
     folder: &mut Folder<System<Tricked>>,
@@ -179,7 +179,7 @@ fn ask_all(
     expect_count(folder.failures(), count)
 }
 
-/// The same of the folder there, whose system plays the trick.
+/// The same for the folder at that path, with this trick.
 fn tell_at(
     rt: HostRuntime,
     root: &str,
@@ -191,7 +191,7 @@ fn tell_at(
     ask_all(rt.alloc(), &mut folder, rows, count)
 }
 
-/// The same of a new sample folder.
+/// The same for a new sample folder.
 fn tell(
     rt: HostRuntime,
     name: &str,
@@ -220,7 +220,7 @@ fn a_failure_has_its_number(rt: HostRuntime) -> Result<(), Fail> {
     Ok(())
 }
 
-// What stands at `e` is as it was.
+// What is at `e` is unchanged.
 #[test]
 fn a_file_replaced_before_it_is_opened_is_not_touched(rt: HostRuntime) -> Result<(), Fail> {
     const WORDS: [&str; 7] = [
@@ -256,14 +256,14 @@ fn a_folder_is_not_removed_with_what_came_into_it(rt: HostRuntime) -> Result<(),
     tell(rt, "late", Trick::Enter, rows.as_slice(), 1)
 }
 
-// What somebody else makes between the look at a target and the move is replaced, and nobody is told.
+// What another process creates between the `lstat` of a target and the rename is replaced without an error.
 #[test]
 fn a_move_replaces_what_came_after_its_look(rt: HostRuntime) -> Result<(), Fail> {
     let rows = [("rename-new a b", "done"), ("read b 0 9", "bytes 616263")];
     tell(rt, "arrived", Trick::Arrive, rows.as_slice(), 0)
 }
 
-// Bits and owners are then set by the path, and times are not.
+// Then permission bits and owners are set by path, and times are not.
 #[test]
 fn what_cannot_be_opened_is_changed_by_its_path(rt: HostRuntime) -> Result<(), Fail> {
     let rows = [
@@ -295,7 +295,8 @@ fn now_is_what_the_clock_says(rt: HostRuntime) -> Result<(), Fail> {
     tell(rt, "now", Trick::Arrive, rows.as_slice(), 0)
 }
 
-// One look at a file or a folder finds for a STAT what was found, made or moved there, and the folder above it is not looked at.
+// For a STAT one `lstat` finds a file or a folder that was found, made or moved there before, and the folder above it
+// is not looked at.
 #[test]
 fn what_was_seen_is_told_by_one_look(rt: HostRuntime) -> Result<(), Fail> {
     let rows = [

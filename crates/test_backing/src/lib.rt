@@ -1,4 +1,4 @@
-//! The calls of `backing` on a memory tree and on a real folder, row by row and at random, side by side.
+//! The calls of `backing` on a memory tree and on a real folder, side by side, row by row and at random.
 #![tactic(auto)]
 
 #[cfg(test)]

@@ -1,4 +1,4 @@
-//! What a real folder does not show.
+//! Things that a real folder does not show.
 
 use crate::sample_trees::{place_of, sample_folder};
 use crate::telling::{Item, Step, tell};
@@ -94,7 +94,7 @@ fn no_name_leads_out(rt: HostRuntime) -> Result<(), Fail> {
     tell(rt, "out", STEPS)
 }
 
-/// Whether the name in the folder may be the root of another is as said.
+/// Checks whether the name in the folder may be the root of another one.
 fn expect_root(rt: HostRuntime, root: &str, name: &str, said: bool) -> Result<(), Fail> {
     let place = place_of(rt.alloc(), root, name)?;
     if Folder::open(rt, place.as_str()).is_ok() == said {

@@ -1,4 +1,4 @@
-//! What a real folder moved, and others change meanwhile.
+//! What a real folder has moved, while others change it.
 
 use crate::telling::{Item, Step, tell};
 use std::test::Fail;

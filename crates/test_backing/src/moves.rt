@@ -1,11 +1,11 @@
-//! The rows of moves that replace nothing, and of exchanges.
+//! Rows for moves that replace nothing, and for exchanges.
 
 use crate::rows::{tell_folder, tell_hold, tell_tree};
 use crate::sample_trees::sample_folder;
 use std::fs;
 use std::test::Fail;
 
-/// Each from the sample.
+/// Each group starts from the sample.
 const NEW: [&[(&str, &str)]; 2] = [
     &[
         ("rename-new a e", "fault 17"),
@@ -44,7 +44,7 @@ const NEW: [&[(&str, &str)]; 2] = [
     ],
 ];
 
-/// Each from the sample, in a tree that exchanges.
+/// Each group starts from the sample, on a tree that can exchange.
 const EXCHANGES: [&[(&str, &str)]; 3] = [
     &[
         ("exchange a e", "done"),
@@ -66,7 +66,7 @@ const EXCHANGES: [&[(&str, &str)]; 3] = [
         ("exchange d/x d", "fault 2"),
         ("list .", "names a d/ e"),
     ],
-    // A folder with all below it, and a file.
+    // A folder with everything below it, and a file.
     &[
         ("mkdir d/x", "done"),
         ("make d/x/y", "done"),
@@ -104,7 +104,7 @@ const EXCHANGES: [&[(&str, &str)]; 3] = [
     ],
 ];
 
-/// A real folder exchanges nothing, whatever stands there.
+/// A real folder refuses every exchange, whatever is there.
 const REFUSED: &[(&str, &str)] = &[
     ("exchange a e", "fault 22"),
     ("exchange a a", "fault 22"),

@@ -8,7 +8,7 @@ use std::alloc::{AllocError, Global};
 use std::fs;
 use std::test::Fail;
 
-/// Random numbers, the same in each run.
+/// Random numbers, the same ones in each run.
 #[derive(Drop)]
 struct Dice {
     state: u64,
@@ -25,7 +25,7 @@ impl Dice {
     }
 }
 
-/// A path of one to three names out of three.
+/// A path of one to three names from a set of three.
 fn path(alloc: Global, dice: &mut Dice) -> Result<String, AllocError> {
     let mut text = String::new(alloc);
     if dice.below(40) == 0 {
@@ -45,7 +45,7 @@ fn path(alloc: Global, dice: &mut Dice) -> Result<String, AllocError> {
     Ok(text)
 }
 
-/// More often a call that makes something than one that removes it.
+/// Calls that make something are more frequent than calls that remove it.
 const NAMES: [&str; 25] = [
     "stat",
     "stat",
@@ -93,7 +93,7 @@ fn call(alloc: Global, dice: &mut Dice) -> Result<String, AllocError> {
     format!(in alloc; "{name} {one} {rest}")
 }
 
-/// The folder answers the call as the tree does, and counts no failure.
+/// Checks that the folder answers the call as the tree does, and counts no failure.
 fn ask_both(
     alloc: Global,
     tree: &mut MemTree,

@@ -1,4 +1,4 @@
-//! What a real folder remembers, and others change meanwhile. A folder that is opened just now remembers nothing.
+//! What a real folder remembers while others change it. A folder that was just opened remembers nothing.
 
 use crate::asking::{expect, expect_count};
 use crate::sample_trees::sample_folder;
@@ -86,7 +86,7 @@ fn a_link_in_a_folder_s_place_is_not_followed(rt: HostRuntime) -> Result<(), Fai
     tell(rt, "link-there", STEPS)
 }
 
-// The folder itself is not another one: this is what others may do in a folder that is served.
+// It is the same folder, so this is what others can do in a folder that is served.
 #[test]
 fn a_link_that_leads_to_the_very_folder_is_followed(rt: HostRuntime) -> Result<(), Fail> {
     const STEPS: &[Step] = &[
@@ -219,7 +219,7 @@ fn a_file_that_is_renamed_over_is_opened_anew(rt: HostRuntime) -> Result<(), Fai
     tell(rt, "renamed-file", STEPS)
 }
 
-/// Makes the folder of that number and a file in it, which holds the number.
+/// Makes the folder with that number, and in it a file that contains the number.
 fn make_one(alloc: Global, folder: &mut Folder<System<HostRuntime>>, n: u64) -> Result<(), Fail> {
     let made = format!(in alloc; "mkdir d/{n}")?;
     expect(alloc, folder, made.as_str(), "done")?;
@@ -229,14 +229,14 @@ fn make_one(alloc: Global, folder: &mut Folder<System<HostRuntime>>, n: u64) -> 
     expect(alloc, folder, written.as_str(), "wrote 3")
 }
 
-/// The last byte of the file of that number is the number's last digit.
+/// Checks that the last byte of that number's file is the last digit of the number.
 fn check_one(alloc: Global, folder: &mut Folder<System<HostRuntime>>, n: u64) -> Result<(), Fail> {
     let read = format!(in alloc; "read d/{n}/f 2 9")?;
     let last = format!(in alloc; "bytes 3{}", n % 10)?;
     expect(alloc, folder, read.as_str(), last.as_str())
 }
 
-// These are more folders and files than are remembered and kept open.
+// More folders and files than are remembered and kept open.
 fn ask_many(alloc: Global, folder: &mut Folder<System<HostRuntime>>) -> Result<(), Fail> {
     for n in 100..400 {
         make_one(alloc, folder, n)?;

@@ -1,4 +1,4 @@
-//! The rows of the calls' definition.
+//! Rows for the definition of the calls.
 
 use crate::asking::{expect, expect_count, expect_rows, path_of};
 use crate::sample_trees::{sample_folder, sample_tree};
@@ -9,7 +9,7 @@ use std::fs;
 use std::sync::{Arc, Mutex, Wait};
 use std::test::Fail;
 
-/// Rows without planned failures and limits, each group from the sample.
+/// Rows without planned failures and limits. Each group starts from the sample.
 const GROUPS: [&[(&str, &str)]; 10] = [
     &[
         ("write a 5 xy", "wrote 2"),
@@ -71,7 +71,7 @@ const GROUPS: [&[(&str, &str)]; 10] = [
         ("rename d .", "fault 16"),
         ("rename . d", "fault 16"),
     ],
-    // Names that begin with a dot are names like others.
+    // Names that begin with a dot are like any others.
     &[
         ("make .a", "done"),
         ("make ...", "done"),
@@ -88,7 +88,7 @@ const GROUPS: [&[(&str, &str)]; 10] = [
         ("rename ... .z", "done"),
         ("list .", "names .z a d/ e"),
     ],
-    // What is absent is not made, and what is below a folder keeps it.
+    // What does not exist is not made, and what is below a folder remains.
     &[
         ("write zz 0 x", "fault 2"),
         ("setlen zz 3", "fault 2"),
@@ -114,7 +114,7 @@ const GROUPS: [&[(&str, &str)]; 10] = [
         ("check e 131071 9", "1 of 1"),
         ("check e 131072 9", "0 of 0"),
     ],
-    // From within a page, with a gap before it.
+    // From the middle of a page, with a gap before it.
     &[
         ("fill a 4094 4", "wrote 4"),
         ("read a 0 5", "bytes 6162630000"),
@@ -128,7 +128,7 @@ const GROUPS: [&[(&str, &str)]; 10] = [
     ],
 ];
 
-/// The rows on a memory tree, from the sample. No call fails.
+/// The rows on a memory tree, starting from the sample. No call fails.
 pub fn tell_tree(alloc: Global, rows: &[(&str, &str)]) -> Result<(), Fail> {
     let mut tree = sample_tree(alloc)?;
     expect_rows(alloc, &mut tree, rows)?;
@@ -143,7 +143,7 @@ fn rows_on_a_memory_tree(rt: HostRuntime) -> Result<(), Fail> {
     Ok(())
 }
 
-/// The rows on the real folder there. No call is counted as a failure.
+/// The rows on the real folder at that path. No call is counted as a failure.
 pub fn tell_folder(rt: HostRuntime, root: &str, rows: &[(&str, &str)]) -> Result<(), Fail> {
     let mut folder = Folder::open(rt, root)?;
     expect_rows(rt.alloc(), &mut folder, rows)?;
@@ -160,7 +160,7 @@ fn rows_on_a_real_folder(rt: HostRuntime) -> Result<(), Fail> {
     Ok(())
 }
 
-/// The rows through a hold on a memory tree, from the sample. No call fails.
+/// The rows through a handle to a memory tree, starting from the sample. No call fails.
 pub fn tell_hold<H: Wait + Drop>(alloc: Global, rt: H, rows: &[(&str, &str)]) -> Result<(), Fail> {
     let tree = Arc::new(alloc, Mutex::new(sample_tree(alloc)?))?;
     let mut hold = Shared::new(rt, tree);
@@ -176,14 +176,14 @@ fn rows_through_a_hold(rt: HostRuntime) -> Result<(), Fail> {
     Ok(())
 }
 
-/// What is done with a memory tree that starts as the sample.
+/// A step with a memory tree that starts as the sample.
 #[derive(Clone, Copy)]
 enum Step<'a> {
-    /// That call is to fail so.
+    /// That call is to fail like this.
     Plan(u64, PlannedFault),
     /// A call, and its answer.
     Ask(&'a str, &'a str),
-    /// So many of the calls so far have failed.
+    /// That many of the calls so far have failed.
     Failed(u64),
 }
 
@@ -198,7 +198,7 @@ fn take(alloc: Global, tree: &mut MemTree, step: Step) -> Result<(), Fail> {
     }
 }
 
-/// Takes each step, from the sample.
+/// Takes each step, starting from the sample.
 fn tell(alloc: Global, steps: &[Step]) -> Result<(), Fail> {
     let mut tree = sample_tree(alloc)?;
     for step in steps {
@@ -252,7 +252,7 @@ fn a_file_ends_at_its_limit(rt: HostRuntime) -> Result<(), Fail> {
     tell(rt.alloc(), STEPS)
 }
 
-/// Puts a file there, or a folder where no bytes are given, which is refused so.
+/// Checks that adding a file there, or a folder if there are no bytes, is refused like this.
 fn expect_refused(
     alloc: Global,
     tree: &mut MemTree,

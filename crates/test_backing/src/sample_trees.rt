@@ -1,4 +1,4 @@
-//! Trees to begin with.
+//! Trees to start from.
 
 use crate::asking::path_of;
 use backing::MemTree;
@@ -6,7 +6,7 @@ use std::alloc::{AllocError, Global};
 use std::test::Fail;
 use std::{env, fs, io, process};
 
-/// File `a` with the bytes `abc`, folder `d` and the empty file `e`.
+/// The file `a` with the bytes `abc`, the folder `d` and the empty file `e`.
 pub fn sample_tree(alloc: Global) -> Result<MemTree, Fail> {
     let mut tree = MemTree::new(alloc);
     let a = tree.put_file(&path_of(alloc, "a")?, b"abc");
@@ -18,7 +18,7 @@ pub fn sample_tree(alloc: Global) -> Result<MemTree, Fail> {
     Err(Fail::from("not all of the sample was put"))
 }
 
-/// Where the name stands in the folder.
+/// The path of the name in the folder.
 pub fn place_of(alloc: Global, root: &str, name: &str) -> Result<String, AllocError> {
     format!(in alloc; "{root}/{name}")
 }

@@ -1,5 +1,5 @@
-//! What a real folder remembers of a STAT, and others change meanwhile. Each path is asked for twice before: the second time one look finds
-//! what was seen.
+//! What a real folder remembers of a STAT while others change it. Each path is asked for twice first: the second time
+//! one `lstat` finds what was remembered.
 
 use crate::asking::{expect, expect_count};
 use crate::sample_trees::sample_folder;
@@ -124,7 +124,7 @@ fn a_link_to_another_folder_is_not_followed_to_a_seen_name(rt: HostRuntime) -> R
     tell(rt, "seen-links", STEPS)
 }
 
-// The file itself is not another one: this is what others may do in a folder that is served.
+// It is the same file, so this is what others can do in a folder that is served.
 #[test]
 fn a_seen_file_is_told_through_a_link_to_its_folder(rt: HostRuntime) -> Result<(), Fail> {
     const STEPS: &[Step] = &[
@@ -201,7 +201,7 @@ fn what_its_own_calls_change_is_told(rt: HostRuntime) -> Result<(), Fail> {
     tell(rt, "seen-own", STEPS)
 }
 
-/// Makes a file of that many bytes, which is its name too.
+/// Makes a file with that many bytes, whose name is that number.
 fn make_one(alloc: Global, folder: &mut Folder<System<HostRuntime>>, n: u64) -> Result<(), Fail> {
     let made = format!(in alloc; "make d/{n}")?;
     expect(alloc, folder, made.as_str(), "done")?;
@@ -209,7 +209,7 @@ fn make_one(alloc: Global, folder: &mut Folder<System<HostRuntime>>, n: u64) -> 
     expect(alloc, folder, cut.as_str(), "done")
 }
 
-/// The file of that name has that length.
+/// Checks that the file with that name has that length.
 fn check_one(
     alloc: Global,
     folder: &mut Folder<System<HostRuntime>>,
@@ -221,7 +221,7 @@ fn check_one(
     expect(alloc, folder, words.as_str(), wanted.as_str())
 }
 
-/// The file of the one name replaces that of the other.
+/// Moves the file with the one name over the one with the other.
 fn move_one(
     alloc: Global,
     folder: &mut Folder<System<HostRuntime>>,
@@ -232,7 +232,7 @@ fn move_one(
     expect(alloc, folder, words.as_str(), "done")
 }
 
-// These are more paths than are remembered.
+// More paths than are remembered.
 fn ask_many(alloc: Global, folder: &mut Folder<System<HostRuntime>>) -> Result<(), Fail> {
     for n in 1000..1800 {
         make_one(alloc, folder, n)?;

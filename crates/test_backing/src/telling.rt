@@ -1,4 +1,5 @@
-//! Stories of a real folder: what the system puts into it, and what its calls answer. Each is told to a new sample folder.
+//! Stories about a real folder: what the system puts into it, and what its calls answer. Each starts with a new sample
+//! folder.
 
 use crate::asking::{expect, expect_count, path_of};
 use crate::sample_trees::{place_of, sample_folder};
@@ -9,7 +10,7 @@ use std::os::unix::net::UnixListener;
 use std::test::Fail;
 use std::{fs, io};
 
-/// What is put at a place of the folder by the system, and not by its calls.
+/// What the system puts at a place in the folder, without the folder's calls.
 #[derive(Clone, Copy)]
 pub enum Item<'a> {
     /// A link to that place.
@@ -18,9 +19,9 @@ pub enum Item<'a> {
     File(&'a str),
     Folder,
     Socket,
-    /// What stood there, a file, is taken away.
+    /// What was there, a file, is removed.
     Nothing,
-    /// What stands at that other name of the folder, moved.
+    /// What is at that other name of the folder is moved there.
     Moved(&'a str),
 }
 
@@ -30,13 +31,13 @@ pub enum Step<'a> {
     Put(&'a str, Item<'a>),
     /// A call, and its answer.
     Ask(&'a str, &'a str),
-    /// The same, and a folder that was opened just now has the same answer.
+    /// The same, and a folder that was just opened has the same answer.
     Both(&'a str, &'a str),
-    /// A STAT tells what the system tells of what stands at the name.
+    /// A STAT reports what the system reports about what is at the name.
     Same(&'a str),
-    /// What stands there may be given to whom it is already.
+    /// The owner and group of what is there may be set to what they are.
     Own(&'a str),
-    /// So many of the calls so far were counted as failures.
+    /// That many of the calls so far were counted as failures.
     Failed(u64),
 }
 
@@ -54,7 +55,7 @@ fn put(rt: &HostRuntime, root: &str, place: &str, item: Item) -> io::Result<()> 
     }
 }
 
-/// What the system tells of what stands there, as a directory would.
+/// What the system reports about what is there, as a directory would.
 fn details_at(rt: &HostRuntime, root: &str, name: &str) -> io::Result<Details> {
     let place = place_of(rt.alloc(), root, name)?;
     let metadata = fs::symlink_metadata(rt, place.as_str())?;
@@ -93,7 +94,7 @@ fn expect_same(
     }
 }
 
-/// Sets owner and group to what they are, one alone and both together.
+/// Sets owner and group to what they are, each alone and both together.
 fn expect_own(
     rt: &HostRuntime,
     root: &str,
@@ -113,7 +114,7 @@ fn expect_own(
     expect_same(rt, root, folder, name)
 }
 
-/// A folder that is opened just now has that answer.
+/// Checks that a folder that was just opened has that answer.
 fn expect_anew(rt: HostRuntime, root: &str, words: &str, wanted: &str) -> Result<(), Fail> {
     let mut folder = Folder::open(rt, root)?;
     expect(rt.alloc(), &mut folder, words, wanted)
@@ -154,13 +155,13 @@ fn take_all(
     Ok(())
 }
 
-/// Takes each step in the folder there.
+/// Takes each step in the folder at that path.
 fn tell_at(rt: HostRuntime, root: &str, steps: &[Step]) -> Result<(), Fail> {
     let mut folder = Folder::open(rt, root)?;
     take_all(&rt, root, &mut folder, steps)
 }
 
-/// Takes each step in a new sample folder of that name.
+/// Takes each step in a new sample folder with that name.
 pub fn tell(rt: HostRuntime, name: &str, steps: &[Step]) -> Result<(), Fail> {
     let root = sample_folder(&rt, name)?;
     tell_at(rt, root.as_str(), steps)?;

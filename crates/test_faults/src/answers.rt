@@ -1,4 +1,4 @@
-//! What the slow program answers: the body of a reply, and what goes back where that is not taken.
+//! What the slow program answers: the body of a reply, and what is taken back if the reply is not taken.
 
 use crate::items::Told;
 use crate::world::SlowNode;
@@ -17,7 +17,7 @@ pub struct Answer {
     pub listed: bool,
 }
 
-/// An answer that gives nothing.
+/// An answer that gives and opens nothing.
 pub fn plain(alloc: Global, body: ReplyBody) -> Answer {
     Answer {
         body,
@@ -35,7 +35,7 @@ pub fn done(alloc: Global) -> Answer {
     plain(alloc, ReplyBody::Done)
 }
 
-/// The kind that a reply tells.
+/// The kind that a reply reports.
 pub fn kind_of(is_folder: bool) -> Kind {
     if is_folder { Kind::Folder } else { Kind::File }
 }
@@ -46,7 +46,7 @@ const BEGINNING: Time = Time {
     nanos: 0,
 };
 
-/// What is told of all folders, or of all files.
+/// The details of all folders, or of all files.
 fn details_of(is_folder: bool) -> Details {
     let (permissions, links) = if is_folder { (0o755, 2) } else { (0o644, 1) };
     Details {
@@ -60,7 +60,7 @@ fn details_of(is_folder: bool) -> Details {
     }
 }
 
-/// The entry of a node where that was found.
+/// The entry of a node for what was found at its name.
 pub fn entry_of(node: SlowNode, found: Told) -> Entry {
     let (is_folder, size) = match found {
         Told::File(size) => (false, size),
@@ -78,7 +78,7 @@ pub fn entry_of(node: SlowNode, found: Told) -> Entry {
     }
 }
 
-/// The answer that gives a node where that was found.
+/// The answer with an entry of the node for what was found at its name.
 pub fn entered(alloc: Global, node: SlowNode, found: Told) -> Result<Answer, AllocError> {
     let mut given = Vec::new(alloc);
     given.push(node)?;

@@ -3,7 +3,7 @@
 use backing::Call;
 use paths::Path;
 
-/// What is asked of a tree. All names stand in its root.
+/// A call of a tree. All names are in its root.
 #[derive(Clone, Copy, Debug, PartialEq, Eq)]
 pub enum Ask {
     Stat(&'static str),
@@ -18,7 +18,7 @@ pub enum Ask {
     Write(&'static str, u64, &'static [u8]),
 }
 
-/// Whether the path is that of a name in the root.
+/// Whether the path is that name in the root.
 fn is_at(path: &Path, name: &str) -> bool {
     match path.names() {
         [only] => only.as_str() == name,
@@ -26,7 +26,7 @@ fn is_at(path: &Path, name: &str) -> bool {
     }
 }
 
-/// Whether the call asks that.
+/// Whether the call is that one.
 pub fn is_ask(call: Call<'_>, ask: Ask) -> bool {
     match (call, ask) {
         (Call::Stat(path), Ask::Stat(name)) => is_at(path, name),

@@ -1,9 +1,9 @@
-//! Bytes out of hexadecimal digits.
+//! Bytes from hexadecimal digits.
 
 use std::alloc::Global;
 use std::test::Fail;
 
-/// The bytes that the digits spell. Spaces are left out.
+/// The bytes that the digits give. Spaces are ignored.
 pub fn bytes_of(alloc: Global, digits: &str) -> Result<Vec<u8>, Fail> {
     let mut found = Vec::new(alloc);
     for byte in digits.as_bytes() {
@@ -14,7 +14,7 @@ pub fn bytes_of(alloc: Global, digits: &str) -> Result<Vec<u8>, Fail> {
     Ok(hex::decode(alloc, &found)?)
 }
 
-/// The same of several, one after another.
+/// The bytes of several lines, one after another.
 pub fn joined(alloc: Global, lines: &[&str]) -> Result<Vec<u8>, Fail> {
     let mut all = Vec::new(alloc);
     for line in lines {
@@ -23,7 +23,7 @@ pub fn joined(alloc: Global, lines: &[&str]) -> Result<Vec<u8>, Fail> {
     Ok(all)
 }
 
-/// The same, each apart.
+/// The bytes of several lines, each line apart.
 pub fn apart(alloc: Global, lines: &[&str]) -> Result<Vec<Vec<u8>>, Fail> {
     let mut all = Vec::new(alloc);
     for line in lines {

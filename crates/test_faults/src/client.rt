@@ -1,4 +1,4 @@
-//! A client that is scripted, and sessions with it.
+//! A scripted client, and sessions with it.
 
 ghost use Rattle.std.specs.Prelude.{◌≡◌, ◌≤◌, IfOk};
 ghost use Rattle.table_steps.specs.Kept.{world_of};
@@ -15,8 +15,8 @@ use table::{Counts, Limits, Seeds, Table};
 use table_image::Image;
 use test_support::Handles;
 
-/// Gives its frames one after another, and takes all replies but one. Handles of open folders stand in its frames and replies as the
-/// places in which they came (`Handles`).
+/// Sends its frames one after another, and takes all replies except one. In its frames and replies, handles of open
+/// folders are given by their positions (`Handles`).
 #[derive(Drop)]
 pub struct Client {
     frames: Vec<Vec<u8>>,
@@ -26,7 +26,7 @@ pub struct Client {
     pub offers: u32,
     /// The reply that is not taken, counted from 1, or 0.
     declined: u32,
-    /// What becomes of it.
+    /// What becomes of that reply.
     fate: Sent,
     /// The replies that were taken, one after another.
     pub taken: Vec<u8>,
@@ -34,7 +34,7 @@ pub struct Client {
 }
 
 impl Client {
-    /// A client that sends these frames. Of the reply of that number, counted from 1, it tells that.
+    /// A client that sends these frames, and returns `fate` for that reply, counted from 1.
     pub fn new(alloc: Global, frames: Vec<Vec<u8>>, declined: u32, fate: Sent) -> Client {
         Client {
             frames,
@@ -84,7 +84,7 @@ impl LinkOut for Client {
 
     fn send(&mut self, frame: &[u8]) -> Sent {
         self.offers = self.offers.saturating_add(1);
-        // Its handle is read whether it is then taken or not.
+        // The handle in it is read whether or not the reply is then taken.
         let told = self.handles.told(*self.taken.allocator(), frame);
         if self.offers == self.declined && self.fate != Sent::Taken {
             self.failures = self.failures.saturating_add(1);
@@ -110,14 +110,14 @@ impl Link for Client {
     ghost one_count = { λ _. refl };
 }
 
-/// How a session ended, and its table then.
+/// How a session ended, and its table at the end.
 #[derive(Drop)]
 pub struct Over {
     pub end: SessionEnd,
     pub image: Image,
 }
 
-/// A new table, and its one share.
+/// A new table, and its only share.
 fn open_one<T: Ledgers>(
     alloc: Global,
     limits: Limits,

@@ -1,4 +1,4 @@
-//! The server's run beside that of the slow program.
+//! The server's run compared with that of the slow program.
 
 ghost use Rattle.std.specs.Prelude.{◌≡◌};
 
@@ -16,7 +16,7 @@ use std::test::Fail;
 use table_image::Image;
 use tree::{Node, Place};
 
-/// A run that came otherwise, and in what.
+/// A run that differs, and in what.
 #[derive(Debug, Drop)]
 struct Otherwise {
     plan: Plan,
@@ -27,7 +27,7 @@ struct Otherwise {
     is_tree: bool,
 }
 
-/// Whether the table's node is the slow program's.
+/// Whether the table's node is the same as the slow program's.
 fn is_node(node: &Node, slow: &SlowNode, ledger: &[Posting]) -> bool {
     let is_place = match (&node.place, slow.name) {
         (Place::Named(key), Some(name)) => key.parent == 1 && key.name.as_str() == name,
@@ -50,7 +50,7 @@ fn is_root(node: &Node) -> bool {
     is_place && node.number == 1 && node.generation == 0 && node.count == 0 && !node.hidden
 }
 
-/// Whether one of the slow program's nodes is that, or it is the root.
+/// Whether the node is the root or one of the slow program's.
 fn is_known(node: &Node, world: &World) -> bool {
     for slow in &world.nodes {
         if is_node(node, slow, &world.ledger) {
@@ -60,7 +60,8 @@ fn is_known(node: &Node, world: &World) -> bool {
     is_root(node)
 }
 
-/// Whether both have the same nodes. Those of a lawful table have distinct numbers, so as many that are known are all.
+/// Whether both have the same nodes. A lawful table's nodes have distinct numbers, so if all are known and there are as
+/// many as the slow program's and the root, none is missing.
 fn are_nodes(image: &Image, world: &World) -> bool {
     for node in image.nodes.as_slice() {
         if !is_known(node, world) {
@@ -70,7 +71,7 @@ fn are_nodes(image: &Image, world: &World) -> bool {
     image.nodes.as_slice().len() == world.nodes.len().saturating_add(1)
 }
 
-/// Whether the table's image is what the slow program keeps, with no request in flight.
+/// Whether the table's image is what the slow program keeps, with no request in progress.
 fn is_image(image: &Image, world: &World) -> bool {
     are_nodes(image, world)
         && image.lawful()
@@ -82,7 +83,7 @@ fn is_image(image: &Image, world: &World) -> bool {
         && image.last_handle == world.last_file
 }
 
-/// Whether the tree has what stands at the item's name.
+/// Whether the tree has what is at the item's name.
 fn is_item(
     alloc: Global,
     tree: &mut MemTree,
@@ -102,7 +103,7 @@ fn is_item(
     has_bytes(alloc, tree, name, &item.bytes)
 }
 
-/// How many names stand.
+/// How many items have a name.
 fn count_items(items: &[Item]) -> usize {
     let mut count = 0usize;
     for item in items {
@@ -113,7 +114,7 @@ fn count_items(items: &[Item]) -> usize {
     count
 }
 
-/// Whether just the items stand in the tree.
+/// Whether the tree has the items and nothing else.
 pub fn is_tree(alloc: Global, tree: &mut MemTree, items: &[Item]) -> Result<bool, AllocError> {
     for item in items {
         if !is_item(alloc, tree, items, item)? {
@@ -123,7 +124,7 @@ pub fn is_tree(alloc: Global, tree: &mut MemTree, items: &[Item]) -> Result<bool
     Ok(count_names(alloc, tree, None)? == count_items(items))
 }
 
-/// Fails where the server's run is not that of the slow program.
+/// Fails if the server's run differs from that of the slow program.
 fn expect_same(alloc: Global, plan: &Plan, ran: &mut Ran, slow: &Outcome) -> Result<(), Fail> {
     let are_replies = ran.taken.as_slice() == slow.taken.as_slice() && ran.offers == slow.offers;
     let are_calls = ran.are_due;
@@ -144,7 +145,7 @@ fn expect_same(alloc: Global, plan: &Plan, ran: &mut Ran, slow: &Outcome) -> Res
     .into())
 }
 
-/// Serves the session where that fails, beside the slow program: the same replies, calls, end, table and tree.
+/// Serves the session with that failure, and runs the slow program: replies, calls, end, table and tree are the same.
 pub fn compare<H: Wait + RandomSource, T: Ledgers>(
     rt: &H,
     alloc: Global,

@@ -1,4 +1,4 @@
-//! The requests of open folders, as the slow program meets them.
+//! The slow program's requests of open folders.
 
 use crate::answers::{Answer, done, entry_of, failed, kind_of, plain};
 use crate::asks::Ask;
@@ -9,7 +9,7 @@ use payload::Payload;
 use std::alloc::{AllocError, Global};
 use wire::{ReplyBody, encode_plus_dirent};
 
-/// The names that stand in the root, without those that the server keeps for itself.
+/// The names in the root, without those that the server reserves for itself.
 fn names_of(alloc: Global, items: &[Item]) -> Result<Vec<&'static str>, AllocError> {
     let mut names = Vec::new(alloc);
     for item in items {
@@ -22,7 +22,7 @@ fn names_of(alloc: Global, items: &[Item]) -> Result<Vec<&'static str>, AllocErr
     Ok(names)
 }
 
-/// Whether a folder stands at the name.
+/// Whether there is a folder at the name.
 fn is_folder(items: &[Item], name: &str) -> bool {
     for item in items {
         if item.name == Some(name) {
@@ -32,7 +32,7 @@ fn is_folder(items: &[Item], name: &str) -> bool {
     false
 }
 
-/// The same by rising bytes, with what they are.
+/// The same names sorted by bytes, each with what it is.
 fn listing_of(alloc: Global, items: &[Item]) -> Result<Vec<Listed>, AllocError> {
     let mut names = names_of(alloc, items)?;
     names.sort()?;
@@ -46,7 +46,7 @@ fn listing_of(alloc: Global, items: &[Item]) -> Result<Vec<Listed>, AllocError> 
     Ok(listing)
 }
 
-/// A page that begins with `.` and `..`, of which nothing is given.
+/// A page that begins with `.` and `..`, for which no entry is given.
 fn page_of(alloc: Global) -> Result<Vec<u8>, AllocError> {
     let mut page = Vec::new(alloc);
     encode_plus_dirent(&mut page, None, 1, kind_of(true), ".")?;
@@ -55,7 +55,7 @@ fn page_of(alloc: Global) -> Result<Vec<u8>, AllocError> {
 }
 
 impl World {
-    /// The names of the open folder of that handle. Only the root is opened.
+    /// The names of the open folder with that handle. Only the root is opened.
     fn names_under(&self, node: u64, handle: u64) -> Result<Option<Vec<Listed>>, AllocError> {
         let Some(listing) = &self.listing else {
             return Ok(None);
@@ -106,7 +106,7 @@ impl World {
         }
     }
 
-    /// READDIRPLUS from the beginning. All names of the session fit in a page.
+    /// READDIRPLUS from the beginning. All names of the session fit in one page.
     pub fn read_entries(&mut self, node: u64, handle: u64) -> Result<Answer, AllocError> {
         let alloc = self.alloc;
         let Some(names) = self.names_under(node, handle)? else {

@@ -1,4 +1,5 @@
-//! The frames of the session and the replies to them, in hexadecimal digits, typed in from the protocol's description. Spaces are for reading.
+//! The frames of the session and the replies to them, in hexadecimal digits, typed in from the protocol's description.
+//! The spaces are for reading.
 
 /// INIT 7.31, unique 1.
 pub const INIT: &str =
@@ -17,7 +18,7 @@ pub const OPEN_A: &str =
 pub const LOOKUP_E: &str =
     "2a000000 01000000 0600000000000000 0100000000000000 00000000 00000000 00000000 00000000 6500";
 
-/// What is agreed on with INIT.
+/// The reply to INIT.
 pub const AGREED: &str = "50000000 00000000 0100000000000000 07000000 1f000000 00000100 00000000 \
     0c00 0900 00000100 01000000 0000 0000 \
     00000000 00000000 00000000 00000000 00000000 00000000 00000000 00000000";
@@ -39,8 +40,9 @@ pub const ENTRY_E: &str = "90000000 00000000 0600000000000000 \
     0000000000000000 0000000000000000 0000000000000000 00000000 00000000 00000000 \
     a4810000 01000000 00000000 00000000 00000000 00100000 00000000";
 
-/// INIT 7.31; LOOKUP `a`; OPEN 2 for reading and writing; WRITE of `de` at byte 3; UNLINK `a`; LOOKUP `e`; RENAME `e` to `b`; MKDIR `m`; RMDIR `m`;
-/// OPENDIR 1; READDIRPLUS from its beginning in 4,096 bytes; RELEASE; RELEASEDIR; DESTROY. Unique 1 to 14.
+/// INIT 7.31; LOOKUP `a`; OPEN 2 for reading and writing; WRITE of `de` at byte 3; UNLINK `a`; LOOKUP `e`; RENAME `e`
+/// to `b`; MKDIR `m`; RMDIR `m`; OPENDIR 1; READDIRPLUS from its beginning in 4,096 bytes; RELEASE; RELEASEDIR;
+/// DESTROY. Unique 1 to 14.
 pub const FRAMES: &[&str] = &[
     INIT,
     LOOKUP_A,
@@ -64,7 +66,8 @@ pub const FRAMES: &[&str] = &[
     "28000000 26000000 0e00000000000000 0000000000000000 00000000 00000000 00000000 00000000",
 ];
 
-/// What is agreed on; node 2, a file of three bytes; handle 1; two bytes; done; node 3, an empty file; done; node 4, a folder; done; handle 1.
+/// The reply to INIT; node 2, a file of three bytes; handle 1; two bytes; done; node 3, an empty file; done; node 4, a
+/// folder; done; handle 1.
 pub const FIRST_REPLIES: &[&str] = &[
     AGREED,
     ENTRY_A,
@@ -82,7 +85,7 @@ pub const FIRST_REPLIES: &[&str] = &[
     "20000000 00000000 0a00000000000000 0100000000000000 00000000 00000000",
 ];
 
-/// The page with `.` and `..`, `b` of node 3 and `d` of node 5; and done, three times.
+/// The page with `.` and `..`, `b` of node 3 and `d` of node 5; then done, three times.
 pub const LAST_REPLIES: &[&str] = &[
     "90020000 00000000 0b00000000000000",
     // `.`

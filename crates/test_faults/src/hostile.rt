@@ -1,4 +1,4 @@
-//! Frames that no client of good will sends, and what they are answered, byte for byte.
+//! Frames that no well-behaved client sends, and the replies to them, byte for byte.
 
 use ledger::Posting;
 
@@ -7,19 +7,19 @@ use ledger::Posting;
 pub enum Frame {
     /// In hexadecimal digits.
     Whole(&'static str),
-    /// Its beginning in hexadecimal digits, a byte, how often it follows, and the end.
+    /// The beginning in hexadecimal digits, a byte, how often it is repeated, and the end in hexadecimal digits.
     Filled(&'static str, u8, usize, &'static str),
 }
 
 /// A session over the sample tree.
 #[derive(Clone, Copy)]
 pub struct Row {
-    /// Names the row where it comes otherwise.
+    /// Names the row if it fails.
     pub says: &'static str,
     /// What is sent after INIT.
     pub frames: &'static [Frame],
-    /// What is replied after INIT's reply, in hexadecimal digits.
+    /// What is replied after the reply to INIT, in hexadecimal digits.
     pub replies: &'static [&'static str],
-    /// The ledger in the end.
+    /// The ledger at the end.
     pub ledger: &'static [Posting],
 }

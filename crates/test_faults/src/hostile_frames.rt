@@ -1,4 +1,4 @@
-//! Lawless names, sizes and handles, and lookups that were never given.
+//! Invalid names, sizes and handles, and lookups that were never given.
 
 use crate::frames::{ENTRY_A, ENTRY_E, LOOKUP_A, LOOKUP_E, OPEN_A, OPENED};
 use crate::hostile::Frame::{self, Filled, Whole};
@@ -39,7 +39,7 @@ const LONG_NAMES: Row = Row {
     ledger: &[],
 };
 
-/// LOOKUP of `..` and of the byte `ff`, and RENAME with one zero byte.
+/// LOOKUP of `..` and of the byte `ff`, and RENAME with only one zero byte.
 const LAWLESS_NAMES: Row = Row {
     says: "lawless names",
     frames: &[
@@ -58,7 +58,7 @@ const LAWLESS_NAMES: Row = Row {
     ledger: &[],
 };
 
-/// LOOKUP of `.fuse_hiddenx`, and CREATE of it for no access.
+/// LOOKUP of `.fuse_hiddenx`, and CREATE of it with access mode 3, which is not valid.
 const RESERVED_NAMES: Row = Row {
     says: "reserved names",
     frames: &[
@@ -87,7 +87,7 @@ const ONE_ENTRY: &[Posting] = &[
     },
 ];
 
-/// READ of 131,072 bytes and of 131,073, and WRITE of 65,536 bytes and of 65,537 with as many data.
+/// READ of 131,072 bytes and of 131,073, and WRITE of 65,536 bytes and of 65,537, with data of that size.
 const SIZES: Row = Row {
     says: "sizes",
     frames: &[
@@ -133,7 +133,7 @@ const RELEASE_ONE: Frame = Whole(
     0100000000000000 00000000 00000000 0000000000000000",
 );
 
-/// READ of node 3 by handle 1, of node 2 by handle 2, which is open for writing alone, and RELEASE twice.
+/// READ of node 3 by handle 1, of node 2 by handle 2, which is open only for writing, and RELEASE twice.
 const HANDLES: Row = Row {
     says: "handles",
     frames: &[
@@ -184,7 +184,8 @@ const HANDLES: Row = Row {
     ],
 };
 
-/// FORGET of node 2, whose count is 3, of 2^64 - 1 lookups, and of the root of 9: three are taken, and none.
+/// FORGET of 2^64 - 1 lookups of node 2, whose count is 3, and of 9 lookups of the root. The first forgets three
+/// lookups, the second none.
 const FORGETS: Row = Row {
     says: "forgets",
     frames: &[

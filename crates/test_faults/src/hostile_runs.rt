@@ -1,4 +1,4 @@
-//! Hostile frames, served.
+//! Sessions with hostile frames.
 
 ghost use Rattle.std.specs.Prelude.{◌≡◌};
 
@@ -19,7 +19,7 @@ use std::random::RandomSource;
 use std::sync::Wait;
 use std::test::Fail;
 
-/// The row came otherwise.
+/// A row that fails.
 #[derive(Debug, Drop)]
 struct Otherwise {
     says: &'static str,
@@ -28,7 +28,7 @@ struct Otherwise {
     is_end: bool,
 }
 
-/// The digits' bytes, a byte so often, and the other digits' bytes.
+/// The bytes of the first digits, a byte repeated `count` times, and the bytes of the last digits.
 fn filled(alloc: Global, head: &str, fill: u8, count: usize, tail: &str) -> Result<Vec<u8>, Fail> {
     let mut bytes = bytes_of(alloc, head)?;
     for _ in 0..count {
@@ -45,7 +45,7 @@ fn frame_bytes(alloc: Global, frame: Frame) -> Result<Vec<u8>, Fail> {
     }
 }
 
-/// Adds the frame in pieces that a receive has room for.
+/// Adds the frame in pieces that fit the room of a receive.
 fn add_pieces(alloc: Global, pieces: &mut Vec<Vec<u8>>, frame: &[u8]) -> Result<(), AllocError> {
     for piece in frame.chunks(4096) {
         pieces.push(Vec::from_slice(alloc, piece)?)?;
@@ -63,7 +63,7 @@ fn pieces_of(alloc: Global, frames: &[Frame]) -> Result<Vec<Vec<u8>>, Fail> {
     Ok(pieces)
 }
 
-/// Serves the sample tree to a client that sends these pieces. The replies that it was sent.
+/// Serves the sample tree to a client that sends these pieces, and returns the replies too.
 fn serve_pieces<H: Wait + RandomSource, T: Ledgers>(
     rt: &H,
     alloc: Global,
@@ -84,7 +84,7 @@ fn serve_pieces<H: Wait + RandomSource, T: Ledgers>(
     Ok((over, taken))
 }
 
-/// Fails where the row came otherwise.
+/// Fails if the session differs from the row.
 fn judge(row: &Row, over: &Over, taken: &[u8], replies: &[u8]) -> Result<(), Fail> {
     let are_replies = taken == replies;
     let is_ledger = over.image.postings.as_slice() == row.ledger && over.image.lawful();
@@ -101,7 +101,7 @@ fn judge(row: &Row, over: &Over, taken: &[u8], replies: &[u8]) -> Result<(), Fai
     .into())
 }
 
-/// Serves a row. What is waited for is made first, so that nothing fails once there is a session to drop.
+/// Serves a row. What is expected is computed first, so that nothing fails once there is a session to drop.
 fn run_row<H: Wait + RandomSource, T: Ledgers>(
     rt: &H,
     alloc: Global,
@@ -126,7 +126,7 @@ fn hostile_frames(rt: HostRuntime) -> Result<(), Fail> {
     Ok(())
 }
 
-/// MKDIR of a name of 255 bytes in the folder of that number, of unique 7.
+/// MKDIR of a name of 255 bytes in the folder with that number, unique 7.
 fn make_below(alloc: Global, folder: u64) -> Result<Vec<u8>, Fail> {
     let mut bytes = bytes_of(alloc, "30010000 09000000 0700000000000000")?;
     bytes.extend_from_slice(&folder.to_le_bytes())?;
@@ -135,7 +135,7 @@ fn make_below(alloc: Global, folder: u64) -> Result<Vec<u8>, Fail> {
     Ok(bytes)
 }
 
-/// INIT, sixteen folders each in the last, and a LOOKUP of `a` in the last, which is node 17.
+/// INIT, MKDIR of sixteen folders, each in the one before, and a LOOKUP of `a` in the last, which is node 17.
 fn deep_frames(alloc: Global) -> Result<Vec<Vec<u8>>, Fail> {
     let mut frames = Vec::new(alloc);
     frames.push(bytes_of(alloc, INIT)?)?;
@@ -149,7 +149,7 @@ fn deep_frames(alloc: Global) -> Result<Vec<Vec<u8>>, Fail> {
     Ok(frames)
 }
 
-// The path of `a` has more than 4,096 bytes.
+// The path of `a` is longer than 4,096 bytes.
 #[test]
 fn too_long_path(rt: HostRuntime) -> Result<(), Fail> {
     let alloc = rt.alloc();

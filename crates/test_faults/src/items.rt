@@ -1,4 +1,4 @@
-//! A tree with names in its root alone, as a plain list.
+//! A tree with names only in its root, as a plain list.
 
 use crate::asks::Ask;
 use errno::{EEXIST, EFBIG, EISDIR, ENOENT, ENOTDIR};
@@ -7,24 +7,24 @@ use std::alloc::{AllocError, Global};
 /// No file may be longer, in bytes.
 const LONGEST: u64 = 1_048_576;
 
-/// What stands at a name of the root. Folders are empty.
+/// What is at a name of the root. Folders are empty.
 #[derive(Drop)]
 pub struct Item {
-    /// None, once it was removed.
+    /// None once it has been removed.
     pub name: Option<&'static str>,
     pub is_folder: bool,
     /// Of a file.
     pub bytes: Vec<u8>,
 }
 
-/// What a call of the tree is answered.
+/// The answer to a call of the tree.
 #[derive(Clone, Copy, Debug, PartialEq, Eq)]
 pub enum Told {
     Done,
-    /// So many bytes.
+    /// The size in bytes.
     File(u64),
     Folder,
-    /// So many bytes.
+    /// How many bytes were written.
     Wrote(u32),
     Error(i32),
 }
@@ -50,7 +50,7 @@ pub fn sample_items(alloc: Global) -> Result<Vec<Item>, AllocError> {
     Ok(items)
 }
 
-/// What stands there, or ENOENT.
+/// What is at the name, or ENOENT.
 pub fn stat(items: &[Item], name: &str) -> Told {
     for item in items {
         if item.name == Some(name) {
@@ -64,7 +64,7 @@ pub fn stat(items: &[Item], name: &str) -> Told {
     Told::Error(ENOENT)
 }
 
-/// What stands at the name gets another one, or none.
+/// Gives what is at the name another name, or none.
 fn put_name(items: &mut Vec<Item>, name: &str, new: Option<&'static str>) {
     for item in items.iter_mut() {
         if item.name == Some(name) {
@@ -123,7 +123,7 @@ fn rename(items: &mut Vec<Item>, from: &str, to: &'static str) -> Told {
     Told::Done
 }
 
-/// The bytes with the data laid over them. A gap is filled with zeros.
+/// The bytes with the data written over them. A gap is filled with zeros.
 fn laid_over(bytes: &Vec<u8>, offset: usize, data: &[u8]) -> Result<Vec<u8>, AllocError> {
     let mut all = Vec::new(*bytes.allocator());
     let end = bytes.len().max(offset.saturating_add(data.len()));
@@ -172,7 +172,7 @@ fn write(items: &mut Vec<Item>, name: &str, offset: u64, data: &[u8]) -> Result<
     Ok(Told::Wrote(count))
 }
 
-/// Does what is asked. A LIST is done: its names are those of the items.
+/// Does the call. LIST does nothing: its names are those of the items.
 pub fn work(items: &mut Vec<Item>, ask: Ask) -> Result<Told, AllocError> {
     Ok(match ask {
         Ask::Stat(name) => stat(items, name),

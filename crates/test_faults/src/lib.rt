@@ -1,4 +1,4 @@
-//! One session whose calls of the tree and whose replies fail in turn, beside a plain slow program of it.
+//! One session in which each call of the tree and each reply fails in turn, compared with a plain, slow program.
 #![tactic(auto)]
 
 #[cfg(test)]

@@ -20,16 +20,16 @@ use std::sync::Wait;
 use std::test::Fail;
 use table_image::Image;
 
-/// How the session came out.
+/// How the session ended.
 #[derive(Drop)]
 pub struct Ran {
     pub end: SessionEnd,
     pub image: Image,
     /// The replies that were taken, one after another.
     pub taken: Vec<u8>,
-    /// How many were offered.
+    /// How many replies were offered.
     pub offers: u32,
-    /// Whether the calls of the tree were just those that are due.
+    /// Whether the calls of the tree were just the expected ones.
     pub are_due: bool,
     pub tree: MemTree,
 }
@@ -40,7 +40,7 @@ fn path_of(alloc: Global, name: &str) -> Result<Path, AllocError> {
     Path::from_names(names)
 }
 
-/// Puts what stands at a name into the tree.
+/// Puts an item into the tree.
 fn plant(alloc: Global, tree: &mut MemTree, item: &Item) -> Result<(), AllocError> {
     let Some(name) = item.name else {
         return Ok(());
@@ -57,7 +57,7 @@ fn plant(alloc: Global, tree: &mut MemTree, item: &Item) -> Result<(), AllocErro
     }
 }
 
-/// The sample tree, of which a call fails where that is planned.
+/// The sample tree, with the planned call failing.
 pub fn tree_of(alloc: Global, plan: &Plan) -> Result<MemTree, AllocError> {
     let mut tree = MemTree::new(alloc);
     for item in sample_items(alloc)? {
@@ -69,7 +69,7 @@ pub fn tree_of(alloc: Global, plan: &Plan) -> Result<MemTree, AllocError> {
     Ok(tree)
 }
 
-/// What stands at the name in the end.
+/// What is at the name at the end.
 pub fn what_stands(alloc: Global, tree: &mut MemTree, name: &str) -> Result<Told, AllocError> {
     let path = path_of(alloc, name)?;
     Ok(match tree.call(Call::Stat(&path)) {
@@ -106,7 +106,7 @@ pub fn has_bytes(
     })
 }
 
-/// How many names stand in the root, or in a folder of it.
+/// How many names are in the root, or in a folder of it.
 pub fn count_names(
     alloc: Global,
     tree: &mut MemTree,
@@ -122,7 +122,7 @@ pub fn count_names(
     })
 }
 
-/// Serves the session over the sample tree, where that fails, and those calls are due.
+/// Serves the session over the sample tree with that failure. `due` are the expected calls.
 pub fn serve_session<H: Wait + RandomSource, T: Ledgers>(
     rt: &H,
     alloc: Global,

@@ -1,4 +1,4 @@
-//! The requests of names and files, one after another, as the slow program meets them.
+//! The slow program's requests of names and files.
 
 use crate::answers::{Answer, done, entered, failed, plain};
 use crate::asks::Ask;
@@ -9,7 +9,8 @@ use std::alloc::AllocError;
 use table_files::{Access, OpenEntry, OpenFile};
 use wire::ReplyBody;
 
-/// The names that an open file of node 2 is hidden under first. No run of the session hides another, or hides twice.
+/// The names under which the open file of node 2 may be hidden by its first hiding. No run of the session hides another
+/// file, or hides twice.
 const CANDIDATES: [&str; 10] = [
     ".fuse_hidden0000000200000000",
     ".fuse_hidden0000000200000001",
@@ -24,7 +25,7 @@ const CANDIDATES: [&str; 10] = [
 ];
 
 impl World {
-    /// The open file of the handle, if it is of that node.
+    /// The open file with that handle, if it is of that node.
     fn file_of(&self, node: u64, handle: u64) -> Option<OpenFile> {
         for entry in &self.files {
             if entry.handle == handle && entry.file.number == node {
@@ -111,7 +112,7 @@ impl World {
         })
     }
 
-    /// The first candidate where nothing stands, or the error of a look at one.
+    /// The first candidate at which nothing is, or the error of a Stat.
     fn find_candidate(&mut self) -> Result<Result<&'static str, i32>, AllocError> {
         for candidate in CANDIDATES {
             match self.ask(Ask::Stat(candidate))? {
@@ -175,7 +176,7 @@ impl World {
         Ok(done(self.alloc))
     }
 
-    /// RELEASE. The last handle of a hidden file removes it, and is done whatever that is answered.
+    /// RELEASE. The last handle of a hidden file removes it, and the reply is 0 whatever the call answers.
     pub fn release(&mut self, number: u64, handle: u64) -> Result<Answer, AllocError> {
         let alloc = self.alloc;
         if self.file_of(number, handle).is_none() {

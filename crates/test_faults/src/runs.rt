@@ -1,4 +1,4 @@
-//! The session without a failure, and with each in turn.
+//! The session without a failure, and with each failure in turn.
 
 use crate::asks::Ask;
 use crate::bytes::{bytes_of, joined};
@@ -24,14 +24,14 @@ const CALLS: usize = 14;
 
 const REPLIES: u32 = 14;
 
-/// The replies where nothing fails, one after another.
+/// The replies if nothing fails, one after another.
 fn replies_of(alloc: Global) -> Result<Vec<u8>, Fail> {
     let mut replies = joined(alloc, FIRST_REPLIES)?;
     replies.extend_from_slice(&joined(alloc, LAST_REPLIES)?)?;
     Ok(replies)
 }
 
-/// At how many of the names that stands which is to stand there.
+/// How many of the names in `STANDS` are as they should be.
 fn count_right(alloc: Global, ran: &mut Ran) -> Result<usize, AllocError> {
     let mut right = 0usize;
     for (name, told) in STANDS {
@@ -42,7 +42,7 @@ fn count_right(alloc: Global, ran: &mut Ran) -> Result<usize, AllocError> {
     Ok(right)
 }
 
-/// Whether the node of that number has that name in the root, and is marked as hidden just where the name says so.
+/// Whether the node with that number has that name in the root, and is marked as hidden only if the name is `HIDDEN`.
 fn is_named(image: &Image, number: u64, name: &str) -> bool {
     for node in image.nodes.as_slice() {
         if let Place::Named(key) = &node.place {
@@ -77,8 +77,9 @@ fn frames_of_the_session(rt: HostRuntime) -> Result<(), Fail> {
     Ok(())
 }
 
-/// What came of a run: whether it ended with DESTROY and offered all replies, whether these were taken and the calls were those that are due, whether the
-/// ledger is as it should be, and at how many names that stands which is to stand there. Told by one function, since each assertion over a run would have it to drop.
+/// What came of a run: whether it ended with DESTROY and offered all replies, whether the replies and the calls were
+/// the expected ones, whether the ledger is right, and how many names are as they should be. One function computes all
+/// of it, since otherwise each assertion would have to drop the run.
 fn tell_fixed(
     alloc: Global,
     ran: &mut Ran,
@@ -92,7 +93,7 @@ fn tell_fixed(
     ))
 }
 
-// Without a failure: replies, calls, ledger and tree as they are typed in.
+// Without a failure, replies, calls, ledger and tree are as typed in.
 #[test]
 fn fixed_session(rt: HostRuntime) -> Result<(), Fail> {
     let alloc = rt.alloc();
@@ -103,7 +104,7 @@ fn fixed_session(rt: HostRuntime) -> Result<(), Fail> {
     Ok(())
 }
 
-// The slow program has the same of its own.
+// The slow program has the same replies, calls and ledger.
 #[test]
 fn slow_session(rt: HostRuntime) -> Result<(), Fail> {
     let alloc = rt.alloc();
@@ -114,7 +115,7 @@ fn slow_session(rt: HostRuntime) -> Result<(), Fail> {
     Ok(())
 }
 
-/// The replies where UNLINK's move fails.
+/// The replies if UNLINK's rename fails.
 fn replies_of_failed_hiding(alloc: Global) -> Result<Vec<u8>, Fail> {
     let mut replies = joined(alloc, &FIRST_REPLIES[..4])?;
     replies.extend_from_slice(&bytes_of(alloc, "10000000 fbffffff 0500000000000000")?)?;
@@ -123,7 +124,8 @@ fn replies_of_failed_hiding(alloc: Global) -> Result<Vec<u8>, Fail> {
     Ok(replies)
 }
 
-/// The same of a run whose hiding failed: whether the replies and the calls are right, whether the node keeps its name, and whether the file lies where it was moved.
+/// What came of a run whose hiding failed: whether the replies and the calls are right, whether the node keeps its
+/// name, and whether the file is where it was moved.
 fn tell_hiding(
     alloc: Global,
     ran: &mut Ran,
@@ -136,7 +138,8 @@ fn tell_hiding(
     ))
 }
 
-// UNLINK's move is made and fails: its reply is EIO, the node keeps its name, RELEASE removes nothing, and the file is left where it was moved.
+// UNLINK's rename fails although it was done: the reply is EIO, the node keeps its name, RELEASE removes nothing, and
+// the file is left where it was moved.
 #[test]
 fn failed_hiding(rt: HostRuntime) -> Result<(), Fail> {
     let alloc = rt.alloc();
@@ -155,8 +158,8 @@ fn failed_hiding(rt: HostRuntime) -> Result<(), Fail> {
     Ok(())
 }
 
-/// The same of a run whose removal failed: whether the replies and the calls are right, whether the node keeps its hidden name, and at how many names that stands which
-/// is to stand there.
+/// What came of a run whose removal failed: whether the replies and the calls are right, whether the node keeps its
+/// hidden name, and how many names are as they should be.
 fn tell_removal(
     alloc: Global,
     ran: &mut Ran,
@@ -169,7 +172,8 @@ fn tell_removal(
     ))
 }
 
-// RELEASE's removal fails: its reply is 0, the mark stays, and the end of the session removes the file by one more call.
+// RELEASE's removal fails: the reply is 0, the mark remains, and the end of the session removes the file with one more
+// call.
 #[test]
 fn failed_removal(rt: HostRuntime) -> Result<(), Fail> {
     let alloc = rt.alloc();
@@ -189,7 +193,7 @@ fn failed_removal(rt: HostRuntime) -> Result<(), Fail> {
     Ok(())
 }
 
-/// Each call fails, before its work and after it.
+/// Each call fails, without its effect and after it.
 fn failing_calls(alloc: Global) -> Result<Vec<Plan>, AllocError> {
     let mut plans = Vec::new(alloc);
     for made in 0..CALLS {
@@ -214,7 +218,7 @@ fn failing_calls(alloc: Global) -> Result<Vec<Plan>, AllocError> {
     Ok(plans)
 }
 
-/// Each reply is not taken, and breaks the link.
+/// Each reply is not taken, or breaks the link.
 fn failing_replies(alloc: Global) -> Result<Vec<Plan>, AllocError> {
     let mut plans = Vec::new(alloc);
     for made in 0..REPLIES {
@@ -233,7 +237,7 @@ fn failing_replies(alloc: Global) -> Result<Vec<Plan>, AllocError> {
     Ok(plans)
 }
 
-// 28 runs, each as the slow program's.
+// 28 runs, each compared with the slow program's.
 #[test]
 fn each_call_fails(rt: HostRuntime) -> Result<(), Fail> {
     let plans = failing_calls(rt.alloc())?;
@@ -244,7 +248,7 @@ fn each_call_fails(rt: HostRuntime) -> Result<(), Fail> {
     Ok(())
 }
 
-// 28 runs, each as the slow program's.
+// 28 runs, each compared with the slow program's.
 #[test]
 fn each_reply_fails(rt: HostRuntime) -> Result<(), Fail> {
     let plans = failing_replies(rt.alloc())?;

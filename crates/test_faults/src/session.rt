@@ -1,14 +1,15 @@
-//! The session whose calls and replies fail in turn: over the sample tree, a request of each kind that changes something, as data.
+//! The session whose calls and replies fail in turn, as data: over the sample tree, one request of each kind that
+//! changes something.
 
 use crate::asks::Ask;
 use crate::items::Told;
 use ledger::Posting;
 use wire::Operation;
 
-/// The name that the open file is hidden under.
+/// The name under which the open file is hidden.
 pub const HIDDEN: &str = ".fuse_hidden0000000200000000";
 
-/// What is asked of which node, one after another, and numbered from 1.
+/// The requests and their nodes, one after another, numbered from 1.
 pub const REQUESTS: &[(u64, Operation<'static>)] = &[
     (
         0,
@@ -62,7 +63,7 @@ pub const REQUESTS: &[(u64, Operation<'static>)] = &[
     (0, Operation::Destroy),
 ];
 
-/// The calls of the tree, one after another, where nothing fails.
+/// The calls of the tree if nothing fails, in order.
 pub const ASKS: &[Ask] = &[
     Ask::Stat("a"),
     Ask::Stat("a"),
@@ -80,7 +81,7 @@ pub const ASKS: &[Ask] = &[
     Ask::Remove(HIDDEN),
 ];
 
-/// The ledger in the end, where nothing fails.
+/// The ledger at the end if nothing fails.
 pub const LEDGER: &[Posting] = &[
     Posting::Born {
         number: 2,
@@ -120,7 +121,7 @@ pub const LEDGER: &[Posting] = &[
     },
 ];
 
-/// What stands at names of the root in the end, where nothing fails.
+/// What is at names of the root at the end if nothing fails.
 pub const STANDS: &[(&str, Told)] = &[
     ("a", Told::Error(2)),
     ("b", Told::File(0)),

@@ -1,4 +1,4 @@
-//! A whole session as a plain slow program: each request from its beginning to its end before the next.
+//! A whole session as a plain, slow program: each request from its beginning to its end before the next.
 
 use crate::answers::{Answer, done, failed, plain};
 use crate::asks::Ask;
@@ -9,7 +9,7 @@ use ledger::Posting;
 use std::alloc::{AllocError, Global};
 use wire::{InitOut, Operation, Reply, ReplyBody, encode_reply};
 
-/// What is agreed on with INIT 7.31, 131,072 bytes read ahead and no flags.
+/// The reply to INIT 7.31 with 131,072 bytes of read-ahead and no flags.
 const AGREED: InitOut = InitOut {
     major: 7,
     minor: 31,
@@ -28,7 +28,7 @@ pub struct Plan {
     pub fault: Option<FaultAt>,
     /// The reply that is not taken, counted from 1, or 0.
     pub declined: u32,
-    /// What becomes of it.
+    /// What becomes of that reply.
     pub fate: Sent,
 }
 
@@ -45,7 +45,7 @@ pub struct Outcome {
     pub world: World,
     /// The replies that were taken, one after another.
     pub taken: Vec<u8>,
-    /// How many were offered.
+    /// How many replies were offered.
     pub offers: u32,
     pub end: SessionEnd,
 }
@@ -71,7 +71,7 @@ impl World {
         }
     }
 
-    /// Gives an entry back, if one of the node is left.
+    /// Takes back an entry of the node, if there is one left.
     fn give_back(&mut self, node: SlowNode) -> Result<(), AllocError> {
         let SlowNode {
             number,
@@ -84,7 +84,7 @@ impl World {
         Ok(())
     }
 
-    /// What an answer gave and opened goes back, where its reply was not taken.
+    /// Takes back what an answer gave, and closes what it opened, since its reply was not taken.
     fn undo(&mut self, answer: &Answer) -> Result<(), AllocError> {
         for node in &answer.given {
             self.give_back(*node)?;
@@ -98,7 +98,7 @@ impl World {
         Ok(())
     }
 
-    /// Tries once to remove the file that is still hidden. There is one at most.
+    /// Tries once to remove the file that is still hidden. There is at most one.
     fn remove_hidden(&mut self) -> Result<(), AllocError> {
         let mut hidden = None;
         for node in &self.nodes {
@@ -114,7 +114,7 @@ impl World {
 }
 
 impl Outcome {
-    /// Meets the request of that number to its end. True says that the session goes on.
+    /// Serves one request to its end. Returns whether the session goes on.
     fn meet(
         &mut self,
         plan: &Plan,

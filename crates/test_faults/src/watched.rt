@@ -1,21 +1,21 @@
-//! A tree in memory whose calls are compared with those that are due.
+//! A tree in memory whose calls are compared with the expected ones.
 
 use crate::asks::{Ask, is_ask};
 use backing::{Answer, Call, Calls, MemTree};
 
-/// A tree in memory, and the calls that are to be made of it.
+/// A tree in memory, and the calls that are expected.
 #[derive(Drop)]
 pub struct Watched<'a> {
     pub tree: MemTree,
     due: &'a [Ask],
     /// How many calls were made.
     pub made: usize,
-    /// How many of them were not those that were due.
+    /// How many of them were not the expected ones.
     pub others: usize,
 }
 
 impl<'a> Watched<'a> {
-    /// A tree of which these calls are to be made, in this order.
+    /// A tree of which these calls are expected, in this order.
     pub fn new(tree: MemTree, due: &'a [Ask]) -> Watched<'a> {
         Watched {
             tree,
@@ -25,7 +25,7 @@ impl<'a> Watched<'a> {
         }
     }
 
-    /// Whether just the calls that are due were made.
+    /// Whether just the expected calls were made.
     pub fn is_as_due(&self) -> bool {
         self.others == 0 && self.made == self.due.len()
     }

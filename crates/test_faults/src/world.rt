@@ -1,4 +1,4 @@
-//! What the slow program keeps: names in place of paths, the whole ledger, and no count.
+//! What the slow program keeps: names instead of paths, the whole ledger, and no counts.
 
 use crate::asks::Ask;
 use crate::items::{Item, Told, sample_items, work};
@@ -12,12 +12,12 @@ use table_files::OpenEntry;
 pub struct SlowNode {
     pub number: u64,
     pub generation: u64,
-    /// In the root; none of a node that was cut.
+    /// In the root; `None` for a node that was cut.
     pub name: Option<&'static str>,
     pub is_hidden: bool,
 }
 
-/// A name of a folder that was opened. `.` and `..` are not among them.
+/// A name in a folder that was opened. `.` and `..` are not among them.
 #[derive(Clone, Copy, Debug, PartialEq, Eq)]
 pub struct Listed {
     pub name: &'static str,
@@ -31,7 +31,7 @@ pub struct FaultAt {
     pub fault: PlannedFault,
 }
 
-/// All that there is.
+/// The whole state.
 #[derive(Drop)]
 pub struct World {
     pub alloc: Global,
@@ -41,9 +41,9 @@ pub struct World {
     pub files: Vec<OpenEntry>,
     pub last_file: u64,
     pub counter: u32,
-    /// The names of the root when it was opened, if it is open.
+    /// The names in the root when it was opened, if it is open.
     pub listing: Option<Vec<Listed>>,
-    /// How often a folder was opened: the last handle of a folder.
+    /// How often a folder was opened, which is also the last handle of a folder.
     pub last_folder: u64,
     /// The calls of the tree that were made.
     pub asks: Vec<Ask>,
@@ -61,7 +61,7 @@ fn entries_of(ledger: &[Posting], number: u64, generation: u64) -> u64 {
     sum
 }
 
-/// How many of them came back. No request of the session forgets.
+/// How many of them were taken back. No request of the session forgets.
 fn backs_of(ledger: &[Posting], number: u64, generation: u64) -> u64 {
     let mut sum = 0u64;
     for posting in ledger {
@@ -90,7 +90,7 @@ fn births_of(ledger: &[Posting], node: u64) -> u64 {
     sum
 }
 
-/// The living node of that number.
+/// The living node with that number.
 pub fn node_of(nodes: &[SlowNode], number: u64) -> Option<SlowNode> {
     for node in nodes {
         if node.number == number {
@@ -110,7 +110,7 @@ pub fn node_at(nodes: &[SlowNode], name: &str) -> Option<SlowNode> {
     None
 }
 
-/// The least number from 2 on that no living node bears.
+/// The least number from 2 on that no living node has.
 fn free_number(nodes: &[SlowNode]) -> u64 {
     let mut number = 2u64;
     for _ in 0..nodes.len() {
@@ -149,7 +149,7 @@ impl World {
         })
     }
 
-    /// Makes a call of the tree. It fails if that is planned: before its work, or after it.
+    /// Makes a call of the tree. If it is planned to fail, it fails without its effect or after it.
     pub fn ask(&mut self, ask: Ask) -> Result<Told, AllocError> {
         self.asks.push(ask)?;
         let made = self.asks.len();
@@ -173,7 +173,7 @@ impl World {
         }
     }
 
-    /// Gives an entry of the node at the name, which is born if none stands there.
+    /// Gives an entry of the node at the name. If there is none, it is born.
     pub fn enter(&mut self, name: &'static str) -> Result<SlowNode, AllocError> {
         let node = match node_at(&self.nodes, name) {
             Some(node) => node,
@@ -198,7 +198,7 @@ impl World {
         Ok(node)
     }
 
-    /// The node at the name, if one stands there, gets another place, and a hidden mark or none.
+    /// Gives the node at the name, if there is one, another place, and a hidden mark or none.
     pub fn place(&mut self, name: &str, new: Option<&'static str>, is_hidden: bool) {
         for node in self.nodes.iter_mut() {
             if node.name == Some(name) {
@@ -208,7 +208,7 @@ impl World {
         }
     }
 
-    /// Closes the file of that handle, if it is open.
+    /// Closes the file with that handle, if it is open.
     pub fn close(&mut self, handle: u64) -> Result<(), AllocError> {
         let mut left = Vec::new(self.alloc);
         for entry in &self.files {
@@ -220,7 +220,7 @@ impl World {
         Ok(())
     }
 
-    /// Drops each node that nothing keeps: no entry, no open file and no hidden mark.
+    /// Drops each node that nothing keeps alive: no entry, no open file and no hidden mark.
     pub fn sweep(&mut self) -> Result<(), AllocError> {
         let mut left = Vec::new(self.alloc);
         for node in &self.nodes {

@@ -1,4 +1,4 @@
-//! Listings put, lent and retired.
+//! Listings that are stored, lent and retired.
 
 use crate::making::{Given, listing, some_listing, told};
 use backing::Kind::{File, Folder};
@@ -33,7 +33,7 @@ fn put_lent_and_retired(rt: HostRuntime) -> Result<(), Fail> {
     let Some(again) = dirs.lend(first) else {
         return Err(Fail::from("the first is not lent twice"));
     };
-    // While it is lent, too, a handle is given up once.
+    // A handle is closed only once, even while its listing is lent.
     assert!(rt; dirs.retire(first));
     assert!(rt; !dirs.retire(first));
     assert!(rt; dirs.lend(first).is_none());
@@ -53,14 +53,15 @@ fn put_lent_and_retired(rt: HostRuntime) -> Result<(), Fail> {
     Ok(())
 }
 
-/// What a thread came to: how many of its listings were lent as they were put and then retired, and under which handles they stood.
+/// The results of a thread: how many of its listings were lent as they were stored and then retired, and under which
+/// handles.
 #[derive(Drop)]
 struct Worked {
     right: u64,
     handles: Vec<u64>,
 }
 
-/// Whether the listing that is lent under the handle bears it, and has these names.
+/// Whether the listing that is lent under the handle has that handle and these names.
 fn is_lent(alloc: Global, dirs: &Dirs, fh: u64, names: &str) -> Result<bool, AllocError> {
     let Some(lent) = dirs.lend(fh) else {
         return Ok(false);
@@ -69,7 +70,7 @@ fn is_lent(alloc: Global, dirs: &Dirs, fh: u64, names: &str) -> Result<bool, All
     Ok(lent.listing().fh() == fh && text.as_str() == names)
 }
 
-/// Puts a listing, lends it, and retires it.
+/// Stores a listing, lends it, and retires it.
 fn use_folder(alloc: Global, dirs: &Dirs, worked: &mut Worked) -> Result<(), AllocError> {
     let Some(own) = some_listing(alloc, TWO) else {
         return Ok(());
@@ -96,7 +97,7 @@ fn use_folders(alloc: Global, dirs: &Dirs) -> Worked {
     worked
 }
 
-/// How many of these handles it gave up.
+/// How many of these handles this call closed.
 fn retire_all(dirs: &Dirs, handles: &[u64]) -> u64 {
     let mut count = 0u64;
     for fh in handles {
@@ -107,7 +108,7 @@ fn retire_all(dirs: &Dirs, handles: &[u64]) -> u64 {
     count
 }
 
-// Of calls that meet one alone is answered true.
+// If several calls close the same handle, exactly one gets true.
 #[test]
 fn each_handle_is_given_up_once(rt: HostRuntime) -> Result<(), Fail> {
     let alloc = rt.alloc();
@@ -128,7 +129,7 @@ fn each_handle_is_given_up_once(rt: HostRuntime) -> Result<(), Fail> {
     Ok(())
 }
 
-// What one thread puts no other one disturbs, and nothing is left of it.
+// What one thread stores is not affected by others, and nothing is left of it afterwards.
 #[test]
 fn four_threads(rt: HostRuntime) -> Result<(), Fail> {
     let alloc = rt.alloc();

@@ -1,4 +1,4 @@
-//! Listings, their pages and the open folders: rows by count of bytes, many names, and two threads.
+//! Listings, their pages and the open folders: rows by number of bytes, many names, and two threads.
 #![tactic(auto)]
 
 #[cfg(test)]

@@ -1,4 +1,4 @@
-//! Listings that are put up to the limits of the open folders, and beyond them.
+//! Listings that are stored up to the limits of the open folders, and beyond them.
 
 use crate::making::{Given, listing, some_listing};
 use backing::Kind::File;
@@ -13,18 +13,18 @@ const ONE: Given = &[("a", File)];
 
 const TWO: Given = &[("a", File), ("b", File)];
 
-/// What is done with the open folders.
+/// One step with the open folders.
 #[derive(Clone, Copy)]
 enum Step {
-    /// A listing of these names is put.
+    /// A listing with these names is stored.
     Put(Given),
-    /// One of these is put, and comes back as it was.
+    /// A listing with these names is refused, and returned unchanged.
     Back(Given),
-    /// The handle of the listing that was put as that one, counted from 0, is given up.
+    /// The handle of the listing that was stored at this position, counted from 0, is closed.
     Retire(usize),
 }
 
-/// Whether the step is answered as it must be. Handles that come are kept.
+/// Whether the step has the right answer. Handles are kept.
 fn is_right(alloc: Global, dirs: &Dirs, handles: &mut Vec<u64>, step: Step) -> Result<bool, Fail> {
     Ok(match step {
         Step::Put(names) => match dirs.put(listing(alloc, names)?) {
@@ -50,7 +50,7 @@ fn take(alloc: Global, dirs: &Dirs, handles: &mut Vec<u64>, step: Step) -> Resul
     Err(Fail::from(("after so many handles", handles.len())))
 }
 
-// `.` and `..` are names that are kept, too.
+// `.` and `..` count as names, too.
 #[test]
 fn listings_come_back_beyond_the_limits(rt: HostRuntime) -> Result<(), Fail> {
     const STEPS: &[Step] = &[
@@ -91,7 +91,7 @@ fn so_many_folders(rt: HostRuntime) -> Result<(), Fail> {
     take(alloc, &dirs, &mut handles, Step::Put(ONE))
 }
 
-/// Puts 500 listings, and retires each that did not come back: how many were made.
+/// Stores 500 listings, and retires each that was not returned. Returns how many were stored.
 fn put_and_retire(alloc: Global, dirs: &Dirs) -> u64 {
     let mut made = 0u64;
     for _round in 0..500 {
@@ -106,7 +106,7 @@ fn put_and_retire(alloc: Global, dirs: &Dirs) -> u64 {
     made
 }
 
-// Whatever was refused to threads that met at the limits, all of it is there again when they have ended.
+// Whatever was refused to threads that met at the limits, all room is there again after they have ended.
 #[test]
 fn no_place_is_lost(rt: HostRuntime) -> Result<(), Fail> {
     let alloc = rt.alloc();

@@ -1,4 +1,4 @@
-//! Listings of given names, and what is told of them.
+//! Making listings from given names, and showing them.
 
 use backing::{Child, Children, Kind};
 use handles::{Listing, ListingFault};
@@ -6,7 +6,7 @@ use paths::Name;
 use std::alloc::{AllocError, Global};
 use std::test::Fail;
 
-/// Names with what stands there, in the order that a directory answers.
+/// Names with their kinds, in the order in which a directory lists them.
 pub(crate) type Given = &'static [(&'static str, Kind)];
 
 pub(crate) fn children(alloc: Global, given: Given) -> Result<Children, AllocError> {
@@ -18,7 +18,7 @@ pub(crate) fn children(alloc: Global, given: Given) -> Result<Children, AllocErr
     Ok(Children::from_vec(list))
 }
 
-/// The listing of node 1, which has these names.
+/// The listing of node 1 with these names.
 pub(crate) fn listing(alloc: Global, given: Given) -> Result<Listing, Fail> {
     match Listing::new(alloc, 1, children(alloc, given)?) {
         Ok(listing) => Ok(listing),
@@ -27,13 +27,13 @@ pub(crate) fn listing(alloc: Global, given: Given) -> Result<Listing, Fail> {
     }
 }
 
-/// The same where no words are to be told of a failure.
+/// The same without a message if it fails.
 pub(crate) fn some_listing(alloc: Global, given: Given) -> Option<Listing> {
     let children = children(alloc, given).ok()?;
     Listing::new(alloc, 1, children).ok()
 }
 
-/// The names with blanks between them, a slash after a folder's.
+/// The names with blanks between them, and a slash after that of a folder.
 pub(crate) fn told(alloc: Global, entries: &[Child]) -> Result<String, AllocError> {
     let mut text = String::new(alloc);
     for entry in entries {

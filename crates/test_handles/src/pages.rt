@@ -12,7 +12,7 @@ const FILES: Given = &[("b", File), ("a", File)];
 
 const SAMPLE: Given = &[("e", File), ("d", Folder), ("a", File)];
 
-/// Names as a directory answers them, and what is listed.
+/// Names as a directory lists them, and the listing.
 const LISTED: [(Given, &str); 13] = [
     (&[], "./ ../"),
     (SAMPLE, "./ ../ a d/ e"),
@@ -60,7 +60,7 @@ fn listed_names(rt: HostRuntime) -> Result<(), Fail> {
     Ok(())
 }
 
-/// With attributes or without, from which offset, for how many bytes, and what is told of the page.
+/// Whether with attributes, from which offset, for how many bytes, and the page as text.
 type Row = (bool, u64, u32, &'static str);
 
 const PAGES: [(Given, &[Row]); 2] = [
@@ -138,7 +138,7 @@ fn longest_name(rt: HostRuntime) -> Result<(), Fail> {
     Ok(())
 }
 
-/// The names `10000` to `19999`, as they come when one walks through them in steps of 7,919.
+/// The names `10000` to `19999`, in the order in which steps of 7,919 reach them.
 fn many_names(alloc: Global) -> Result<Children, AllocError> {
     let mut list = Vec::new(alloc);
     for i in 0..10_000u64 {

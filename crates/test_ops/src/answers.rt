@@ -11,7 +11,7 @@ const ANSWERS: u32 = 14;
 /// How many lists of at most three answers there are.
 pub const LISTS: u32 = 1 + ANSWERS + ANSWERS * ANSWERS + ANSWERS * ANSWERS * ANSWERS;
 
-/// No two numbers are alike.
+/// No two numbers are equal.
 const DETAILS: Details = Details {
     ino: 0x0102030405060708,
     permissions: 0o4751,
@@ -32,7 +32,7 @@ const DETAILS: Details = Details {
     },
 };
 
-/// Something stands there.
+/// Something is there.
 fn stands(kind: Kind, size: u64) -> Answer {
     Answer::Stat {
         kind,
@@ -41,7 +41,7 @@ fn stands(kind: Kind, size: u64) -> Answer {
     }
 }
 
-/// An answer of each kind, of each shape, and of each sort of error number.
+/// An answer of each kind, of each shape, and with each sort of error number.
 fn answer_of(alloc: Global, number: u32) -> Result<Answer, AllocError> {
     Ok(match number {
         0 => Answer::Done,
@@ -61,7 +61,8 @@ fn answer_of(alloc: Global, number: u32) -> Result<Answer, AllocError> {
     })
 }
 
-/// The list of answers under that number, after those that come before it: none is the first, then those of one answer, and so on.
+/// The list of answers with that number, after the row's first ones: the first list is empty, then come those with one
+/// answer, and so on.
 pub fn answers_of(alloc: Global, row: &Row<'_>, number: u32) -> Result<Vec<Answer>, AllocError> {
     let mut answers = Vec::new(alloc);
     for _ in 0..row.done {

@@ -1,11 +1,11 @@
-//! What a script asks and comes to, by the places of its ticket's paths.
+//! What a script asks and its results, with the indices of the paths in its ticket.
 
 use backing::{Call, NewTime};
 use ops::{FoundFile, ScriptResult};
 use paths::Path;
 use table::Ticket;
 
-/// What a ticket says of its request, beside its paths.
+/// What a ticket says about its request, apart from its paths.
 #[derive(Clone, Copy, Debug, PartialEq, Eq)]
 pub struct Form {
     /// A name is moved to itself.
@@ -25,48 +25,48 @@ pub fn form_of(ticket: &Ticket) -> Form {
     }
 }
 
-/// What is asked of a directory at the paths of a request.
+/// What is asked of a directory, in terms of the request's paths.
 #[derive(Clone, Copy, Debug, PartialEq, Eq)]
 pub enum Ask {
-    /// Of the path at that place in the ticket.
+    /// Of the path at this index in the ticket.
     Stat(usize),
     List,
-    /// With these permission bits, or by the default.
+    /// With these permission bits, or the default.
     Make(Option<u32>),
     MakeDir(Option<u32>),
     Remove,
     RemoveDir,
-    /// From the path at one place to that at another.
+    /// From the path at one index to that at another.
     Rename(usize, usize),
-    /// The same, to where nothing stands.
+    /// The same, to a path with nothing at it.
     RenameNew(usize, usize),
-    /// Of what stands at two places.
+    /// Of what is at two paths.
     Exchange(usize, usize),
-    /// To so many bytes.
+    /// To that many bytes.
     SetLen(u64),
-    /// From that byte on, so many.
+    /// From that byte on, that many.
     Read(u64, u32),
-    /// From that byte on, so many.
+    /// From that byte on, that many.
     Write(u64, usize),
     Sync,
     /// To these permission bits.
     SetPermissions(u32),
-    /// To that owner and that group, if it is set.
+    /// To that owner and that group, if they are set.
     SetOwner(Option<u32>, Option<u32>),
-    /// When it was read and when it was changed, if it is set.
+    /// The times of the last read and the last change, if they are set.
     SetTimes(Option<NewTime>, Option<NewTime>),
     /// No script asks this.
     Other,
 }
 
-/// Where a script stands after some answers.
+/// The state of a script after some answers.
 #[derive(Clone, Copy, Debug, PartialEq, Eq)]
 pub enum Stands {
     Asks(Ask),
     Over(Ends),
 }
 
-/// What a script has come to.
+/// The result of a script.
 #[derive(Clone, Copy, Debug, PartialEq, Eq)]
 pub enum Ends {
     Error(i32),
@@ -75,24 +75,24 @@ pub enum Ends {
     NewFile(FoundFile),
     Attributes(FoundFile),
     Opening,
-    /// So many bytes are told.
+    /// That many bytes are returned.
     Bytes(usize),
     Written(u32),
-    /// So many names are listed.
+    /// That many names are listed.
     Listed(usize),
-    /// A file was hidden under the candidate of that index.
+    /// A file was hidden under the candidate with this index.
     Hid(usize),
-    /// It was, and another was moved to its place.
+    /// A file was hidden, and another was moved to its place.
     Replaced(usize),
-    /// It was, and then the move of another to its place failed.
+    /// A file was hidden, and then moving another to its place failed.
     Unmoved(usize, i32),
     /// A closed file was not removed.
     Kept,
-    /// What stands at the two names of a page, and whether something does.
+    /// What is at the two names of a page, and whether anything is.
     Looked([Option<FoundFile>; 2], [bool; 2]),
 }
 
-/// What a finding is.
+/// The result as `Ends`.
 pub fn ends_of(finding: ScriptResult) -> Ends {
     match finding {
         ScriptResult::Error { errno } => Ends::Error(errno),
@@ -118,7 +118,7 @@ pub fn ends_of(finding: ScriptResult) -> Ends {
     }
 }
 
-/// The first place of the path among the others. One that is absent has the place after the last.
+/// The first index of the path among the others. A path that is not among them has the index after the last.
 fn place_of(path: &Path, paths: &[Path]) -> usize {
     let mut place = 0usize;
     for other in paths {
@@ -130,7 +130,7 @@ fn place_of(path: &Path, paths: &[Path]) -> usize {
     place
 }
 
-/// What a call is that sets attributes of the first path.
+/// A call that sets attributes of the first path.
 fn ask_to_set(call: Call<'_>, first: &Path) -> Ask {
     match call {
         Call::SetLen { path, size } if path.is(first) => Ask::SetLen(size),
@@ -147,7 +147,7 @@ fn ask_to_set(call: Call<'_>, first: &Path) -> Ask {
     }
 }
 
-/// What a call of a script is, where it is about the request's paths.
+/// A call of a script, in terms of the request's paths.
 pub fn ask_of(call: Call<'_>, paths: &[Path]) -> Ask {
     let Some(first) = paths.first() else {
         return Ask::Other;

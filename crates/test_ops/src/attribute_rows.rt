@@ -1,4 +1,4 @@
-//! Requests that set attributes or make with a mode: the root is open as file 1.
+//! Requests that set attributes or create something with a mode. The root is open as file 1.
 
 use crate::compare::{Row, compare};
 use crate::rows::OF_THE_ROOT;
@@ -15,7 +15,7 @@ const FIXED: Settings = Settings::Fixed {
     gid: 100,
 };
 
-/// The mode has more than permission bits, and no two numbers are alike.
+/// The mode has more than permission bits, and no two numbers are equal.
 const NEW: NewAttributes = NewAttributes {
     mode: 0o104751,
     uid: 1001,
@@ -30,17 +30,17 @@ const NEW: NewAttributes = NewAttributes {
     },
 };
 
-/// A SETATTR: the settings, its `valid`, and how many calls are done before each list of answers.
+/// A SETATTR: the settings, its `valid`, and how many calls succeed before each list of answers.
 #[derive(Clone, Copy)]
 struct Set(Settings, u32, u32);
 
 const SETS: &[Set] = &[
-    // The size, the owner of a lock, both, and nothing.
+    // The size, the lock owner, both, and nothing.
     Set(FIXED, 8, 0),
     Set(FIXED, 0x200, 0),
     Set(FIXED, 0x208, 0),
     Set(FIXED, 0, 0),
-    // By a handle.
+    // With a handle.
     Set(FIXED, 0x48, 0),
     // Nothing, and each bit alone.
     Set(Settings::Host, 0, 0),
@@ -59,12 +59,12 @@ const SETS: &[Set] = &[
     Set(Settings::Host, 6, 0),
     // Both times.
     Set(Settings::Host, 0x30, 0),
-    // The present and a time, of one and of both.
+    // The current time and a given time, of one and of both.
     Set(Settings::Host, 0x90, 0),
     Set(Settings::Host, 0x120, 0),
     Set(Settings::Host, 0x180, 0),
     Set(Settings::Host, 0x1b0, 0),
-    // The present of one, and a time of the other.
+    // The current time of one, and a given time of the other.
     Set(Settings::Host, 0xa0, 0),
     Set(Settings::Host, 0x110, 0),
     // All at once, from the first call on, and from the third.
@@ -91,7 +91,7 @@ fn what_is_set(rt: HostRuntime) -> Result<(), Fail> {
     Ok(())
 }
 
-/// A mode and an umask.
+/// A mode and a umask.
 const MODES: &[(u32, u32)] = &[
     (0o100644, 0o022),
     (0o1777, 0),

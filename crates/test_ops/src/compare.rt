@@ -1,4 +1,4 @@
-//! A script beside the slow program, after all short lists of answers.
+//! Comparing a script with the slow program, after all short lists of answers.
 
 ghost use Rattle.std.specs.Prelude.{◌≡◌};
 
@@ -16,7 +16,7 @@ use table::{Begin, Limits, Outcome, Seeds, Table, Ticket, Want};
 use table_files::Access;
 use wire::{Operation, Request};
 
-/// What was done before a request is begun. The root is open as file 1.
+/// What was done before a request begins. The root is open as file 1.
 #[derive(Clone, Copy, Debug, PartialEq, Eq)]
 pub enum Before {
     Nothing,
@@ -26,7 +26,7 @@ pub enum Before {
     Hidden,
 }
 
-/// A request, and how it is tried.
+/// A request, and how it is tested.
 #[derive(Clone, Copy)]
 pub struct Row<'a> {
     pub before: Before,
@@ -35,12 +35,12 @@ pub struct Row<'a> {
     /// What its ticket says.
     pub form: Form,
     pub settings: Settings,
-    /// So many answers come before each list: that a call is done, and then that a file stands there.
+    /// That many answers come before each list: they say that a call succeeded, and then that there is a file.
     pub done: u32,
     pub files: u32,
 }
 
-/// Where the script stands after these answers.
+/// The state of the script after these answers.
 fn script_after(
     alloc: Global,
     row: &Row<'_>,
@@ -58,7 +58,7 @@ fn script_after(
     })
 }
 
-/// The first list of answers after which the script stands elsewhere than the slow program.
+/// The first list of answers after which the script is in another state than the slow program.
 fn first_other(alloc: Global, row: &Row<'_>, ticket: &Ticket) -> Result<Option<u32>, AllocError> {
     for number in 0..LISTS {
         let answers = answers_of(alloc, row, number)?;
@@ -70,7 +70,7 @@ fn first_other(alloc: Global, row: &Row<'_>, ticket: &Ticket) -> Result<Option<u
     Ok(None)
 }
 
-/// Takes a request to its end, where it is begun. Tells the handle of the file that it opened.
+/// Takes a request to its end, if it begins. Returns the handle of the file that it opened.
 fn carry<T: Ledgers>(
     table: &mut Table<T>,
     share: &mut Share<T>,
@@ -88,7 +88,7 @@ fn carry<T: Ledgers>(
     }
 }
 
-/// Opens a node for reading and writing. True says that it was, under that handle.
+/// Opens a node for reading and writing. True means that it has this handle.
 fn open_node<T: Ledgers>(table: &mut Table<T>, share: &mut Share<T>, number: u64, fh: u64) -> bool {
     let want = Want::Open {
         number,
@@ -97,7 +97,7 @@ fn open_node<T: Ledgers>(table: &mut Table<T>, share: &mut Share<T>, number: u64
     carry(table, share, want, Outcome::Done) == Some(fh)
 }
 
-/// Does what is done before a request. True says that the files are open.
+/// Does what is to be done before a request. True means that the files are open.
 fn prepare<T: Ledgers>(
     alloc: Global,
     table: &mut Table<T>,
@@ -123,7 +123,7 @@ fn prepare<T: Ledgers>(
     Ok(are_open)
 }
 
-/// A page of the root, with `.` and two names.
+/// A page of the root with `.` and two names.
 fn page_of(alloc: Global) -> Result<Paged, AllocError> {
     let mut entries = Vec::new(alloc);
     for name in [".", "a", "b"] {
@@ -140,7 +140,7 @@ fn page_of(alloc: Global) -> Result<Paged, AllocError> {
     Paged::copy_of(alloc, page)
 }
 
-/// What the request is begun with, if it is begun. Of an open folder that page is told.
+/// The want of the request, if it has one. If it uses an open folder, it returns that page.
 fn want_of(
     alloc: Global,
     settings: Settings,
@@ -156,7 +156,7 @@ fn want_of(
     }
 }
 
-/// The same, where the ticket is of the row's form. Else all lists differ.
+/// The same, if the ticket has the row's form. Otherwise all lists differ.
 fn other_of(alloc: Global, row: &Row<'_>, ticket: &Ticket) -> Result<Option<u32>, AllocError> {
     if form_of(ticket) == row.form {
         first_other(alloc, row, ticket)
@@ -165,7 +165,7 @@ fn other_of(alloc: Global, row: &Row<'_>, ticket: &Ticket) -> Result<Option<u32>
     }
 }
 
-/// The same of a request that is begun, which is then ended. Where it does not begin all lists differ.
+/// The same for a request that begins and is then ended. If it does not begin, all lists differ.
 fn other_begun<T: Ledgers>(
     alloc: Global,
     table: &mut Table<T>,
@@ -184,7 +184,7 @@ fn other_begun<T: Ledgers>(
     }
 }
 
-/// Whether the files of the row are open, and that list.
+/// Whether the files of the row are open, and the first list that differs.
 fn tell_row<T: Ledgers>(
     alloc: Global,
     table: &mut Table<T>,
@@ -197,7 +197,7 @@ fn tell_row<T: Ledgers>(
     Ok((are_open, other))
 }
 
-/// A new table, and its one share.
+/// A new table with one share.
 fn open_one<T: Ledgers>(
     alloc: Global,
     seeds: Seeds,
@@ -212,7 +212,8 @@ fn open_one<T: Ledgers>(
     Ok((table, share))
 }
 
-/// The same on a table of its own, which is gone before anything is judged: a table that has to be dropped on many ways is dear to check.
+/// The same on a table of its own, which is dropped before anything is judged: checking code that may drop a table in
+/// many places takes long.
 fn tell_alone<T: Ledgers>(
     alloc: Global,
     seeds: Seeds,
@@ -229,8 +230,8 @@ fn tell_alone<T: Ledgers>(
     told
 }
 
-/// Compares the script of a request with the slow program's, on a table of its own. Fails with the number of the first list of answers after
-/// which they differ, or with how many there are where it does not begin in its form.
+/// Compares the script of a request with the slow program, on a table of its own. Fails with the number of the first
+/// list of answers after which they differ, or with how many lists there are if it does not begin in its form.
 pub fn compare<T: Ledgers>(
     alloc: Global,
     seeds: Seeds,

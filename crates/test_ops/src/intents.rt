@@ -1,4 +1,4 @@
-//! What a SETATTR is begun with, by its bits.
+//! The wants of SETATTR, by its bits.
 
 use errno::EPERM;
 use ops::{Intent, Settings, Wanted, intent_of};
@@ -15,19 +15,19 @@ const FIXED: Settings = Settings::Fixed {
 /// What a SETATTR of node 5 with handle 7 begins with.
 #[derive(Clone, Copy, Debug, PartialEq, Eq)]
 enum Begins {
-    /// It is EPERM.
+    /// It is refused with EPERM.
     Refused,
-    /// With its node alone.
+    /// With its node only.
     Freely,
-    /// With its handle, which must be open for that.
+    /// With its handle, which must be open with that access.
     By(Need),
 }
 
 use Begins::{By, Freely, Refused};
 
-/// By the settings and `valid`.
+/// By settings and `valid`.
 const ROWS: &[(Settings, u32, Begins)] = &[
-    // Nothing, the size and the owner of a lock.
+    // Nothing, the size and the lock owner.
     (FIXED, 0, Freely),
     (FIXED, 8, Freely),
     (FIXED, 0x200, Freely),
@@ -72,7 +72,7 @@ const ROWS: &[(Settings, u32, Begins)] = &[
     (FIXED, 0x24c, Refused),
     (FIXED, 0x448, Refused),
     (FIXED, 0x648, Refused),
-    // Nothing, each known bit alone, and all but the handle.
+    // Nothing, each known bit alone, and all except the handle.
     (Settings::Host, 0, Freely),
     (Settings::Host, 1, Freely),
     (Settings::Host, 2, Freely),
@@ -120,7 +120,7 @@ const ROWS: &[(Settings, u32, Begins)] = &[
     (Settings::Host, 0xffffffff, Refused),
 ];
 
-/// What is not looked at yet.
+/// Values that do not matter here.
 const NOTHING_NEW: NewAttributes = NewAttributes {
     mode: 0,
     uid: 0,

@@ -1,4 +1,4 @@
-//! Tests of `ops`: its scripts beside a plain slow program of them. The crate is of tests alone.
+//! Tests of `ops`: its scripts are compared with a plain, slow program for them. This crate has only tests.
 #![tactic(auto)]
 
 #[cfg(test)]

@@ -12,7 +12,7 @@ use wire::Operation::{
     Rename, Rename2, Sync, Unlink, Write,
 };
 
-/// About the root, which is open as file 1, or a name in it. Some have several scripts.
+/// Requests for the root, which is open as file 1, or for a name in it. Some have several scripts.
 const OPERATIONS: &[Operation] = &[
     Lookup { name: "a" },
     GetAttr,
@@ -73,7 +73,7 @@ const OPERATIONS: &[Operation] = &[
     Release { fh: 1 },
 ];
 
-/// A ticket that says nothing of its request.
+/// A ticket with nothing special about its request.
 const PLAIN: Form = Form {
     same: false,
     hide: false,
@@ -95,7 +95,7 @@ const LAST: Form = Form {
     ..PLAIN
 };
 
-/// About the root, with attributes that are fixed.
+/// A request for the root, with fixed attributes.
 pub const OF_THE_ROOT: Row = Row {
     before: Before::Nothing,
     node: 1,
@@ -106,7 +106,7 @@ pub const OF_THE_ROOT: Row = Row {
     files: 0,
 };
 
-/// A file that is open is removed.
+/// An open file is removed.
 const REMOVED: Row = Row {
     before: Before::Opened,
     operation: Unlink { name: "a" },
@@ -114,7 +114,7 @@ const REMOVED: Row = Row {
     ..OF_THE_ROOT
 };
 
-/// Another is moved to its place.
+/// Another file is moved to its place.
 const REPLACED: Row = Row {
     operation: Rename {
         name: "e",
@@ -124,7 +124,7 @@ const REPLACED: Row = Row {
     ..REMOVED
 };
 
-/// It is closed.
+/// The file is closed.
 const CLOSED: Row = Row {
     node: 2,
     operation: Release { fh: 2 },
@@ -132,10 +132,10 @@ const CLOSED: Row = Row {
     ..REMOVED
 };
 
-/// Where a file is open, or hidden.
+/// Requests when a file is open, or hidden.
 const ROWS: &[Row] = &[
     REMOVED,
-    // Eight of its ten candidates are taken.
+    // Eight of its ten candidates exist already.
     Row {
         files: 8,
         ..REMOVED
@@ -146,7 +146,7 @@ const ROWS: &[Row] = &[
         files: 1,
         ..REPLACED
     },
-    // And eight candidates are taken.
+    // And eight candidates exist already.
     Row {
         files: 9,
         ..REPLACED
@@ -161,7 +161,7 @@ const ROWS: &[Row] = &[
         form: SAME,
         ..REMOVED
     },
-    // And by RENAME2, which hides with no flags alone.
+    // The same with RENAME2, which hides only without flags.
     Row {
         operation: Rename2 {
             name: "e",
@@ -192,7 +192,7 @@ const ROWS: &[Row] = &[
         form: PLAIN,
         ..REMOVED
     },
-    // Onto itself, and with itself.
+    // To itself, and with itself.
     Row {
         operation: Rename2 {
             name: "a",
@@ -213,7 +213,7 @@ const ROWS: &[Row] = &[
         form: SAME,
         ..REMOVED
     },
-    // Away from its name.
+    // To another name.
     Row {
         operation: Rename {
             name: "a",

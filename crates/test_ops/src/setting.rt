@@ -1,11 +1,11 @@
-//! What a request sets and makes with, by its numbers: a part of the slow program.
+//! What a request sets, and the permission bits of what it makes, by numbers: a part of the slow program.
 
 use crate::asks::Ask;
 use backing::{NewTime, Time};
 use ops::Settings;
 use wire::NewAttributes;
 
-/// The value, where all of these bits are set.
+/// The value, if all of these bits are set.
 fn part<T: Copy>(valid: u32, bits: u32, value: T) -> Option<T> {
     if valid & bits == bits {
         Some(value)
@@ -14,7 +14,7 @@ fn part<T: Copy>(valid: u32, bits: u32, value: T) -> Option<T> {
     }
 }
 
-/// What a time is set to: the present goes before a time that is told.
+/// The value that a time is set to: the current time takes precedence over a given one.
 fn new_time(valid: u32, bit: u32, now: u32, time: wire::Time) -> Option<NewTime> {
     let told = Time {
         seconds: time.seconds,
@@ -26,8 +26,8 @@ fn new_time(valid: u32, bit: u32, now: u32, time: wire::Time) -> Option<NewTime>
     }
 }
 
-/// The calls of a SETATTR before its look, one after another, by the bits of its `valid` as `fuse.h` has them: MODE is 1, UID 2, GID 4, SIZE 8,
-/// ATIME 16, MTIME 32, ATIME_NOW 128 and MTIME_NOW 256.
+/// The calls of a SETATTR before its Stat, in order, by the bits of its `valid` as in `fuse.h`: MODE is 1, UID 2, GID
+/// 4, SIZE 8, ATIME 16, MTIME 32, ATIME_NOW 128 and MTIME_NOW 256.
 pub fn asks_to_set(valid: u32, size: u64, new: NewAttributes) -> [Option<Ask>; 4] {
     let mode = part(valid, 1, Ask::SetPermissions(new.mode % 4096));
     let uid = part(valid, 2, new.uid);
@@ -45,7 +45,7 @@ pub fn asks_to_set(valid: u32, size: u64, new: NewAttributes) -> [Option<Ask>; 4
     [mode, owner, part(valid, 8, Ask::SetLen(size)), times]
 }
 
-/// With which permission bits a file or a folder is made.
+/// The permission bits of a new file or folder.
 pub fn made_with(settings: Settings, mode: u32, umask: u32) -> Option<u32> {
     if settings == Settings::Host {
         Some(mode % 4096 & !umask)

@@ -1,4 +1,5 @@
-//! The scripts of all requests as a plain slow program: where a script stands is found by going over all of its answers anew.
+//! The scripts of all requests as a plain, slow program: the state of a script is found by going through all of its
+//! answers again.
 
 use crate::asks::{Ask, Ends, Form, Stands};
 use crate::setting::{asks_to_set, made_with};
@@ -8,10 +9,10 @@ use ops::{FoundFile, Settings};
 use std::slice::Iter;
 use wire::Operation;
 
-/// How many names a file may be hidden under.
+/// How many candidates a file may be hidden under.
 const CANDIDATES: usize = 10;
 
-/// What an answer counts as. Of names and bytes it says how many.
+/// An answer after checking. Of names and bytes it has only the number.
 #[derive(Clone, Copy, Debug, PartialEq, Eq)]
 enum Counts {
     Done,
@@ -22,7 +23,7 @@ enum Counts {
     Error(i32),
 }
 
-/// The calls of a request that hides nothing, one after another, where nothing fails.
+/// The calls of a request that hides nothing, in order, if nothing fails.
 fn asks_of(settings: Settings, operation: Operation<'_>, same: bool) -> (Option<Ask>, Option<Ask>) {
     match operation {
         Operation::Lookup { .. } | Operation::GetAttr | Operation::Open { .. } => (
@@ -53,7 +54,8 @@ fn asks_of(settings: Settings, operation: Operation<'_>, same: bool) -> (Option<
     }
 }
 
-/// A folder has no size, and no more is read or written than was asked for. Error numbers are 1 to 4,095. An answer of another kind than its call's is EIO.
+/// A folder has size 0, and no more is read or written than was asked for. Error numbers are 1 to 4,095. An answer of
+/// another kind than its call's is EIO.
 fn counts_as(ask: Ask, answer: &Answer) -> Counts {
     match (ask, answer) {
         (_, Answer::Fault(errno)) if (1..4096).contains(errno) => Counts::Error(*errno),
@@ -87,8 +89,8 @@ fn counts_as(ask: Ask, answer: &Answer) -> Counts {
     }
 }
 
-/// What is told at the end, by what the last answer counts as. Of a move that replaces nothing only a look finds something: its target, which
-/// is its source.
+/// The result, given what the last answer counts as. For a move that replaces nothing only a Stat finds something: its
+/// target, which is its source.
 fn ends_with(operation: Operation<'_>, last: Counts) -> Ends {
     match (operation, last) {
         (Operation::Lookup { .. } | Operation::MakeDir { .. }, Counts::Found(found)) => {
@@ -108,7 +110,7 @@ fn ends_with(operation: Operation<'_>, last: Counts) -> Ends {
     }
 }
 
-/// Where that of a page with two names stands: what is not found is nothing, and does not end it.
+/// The state for a page with two names: a name that is not found counts as nothing, and does not end it.
 fn page_after(answers: &[Answer]) -> Stands {
     let mut founds = [None, None];
     for name in 0..2usize {
@@ -123,7 +125,7 @@ fn page_after(answers: &[Answer]) -> Stands {
     Stands::Over(Ends::Looked(founds, there))
 }
 
-/// The next answer to what is asked, or where the script stands without one.
+/// The next answer to what is asked, or the state of the script without it.
 fn take(answers: &mut Iter<'_, Answer>, ask: Ask) -> Result<Counts, Stands> {
     match answers.next() {
         Some(answer) => Ok(counts_as(ask, answer)),
@@ -131,7 +133,7 @@ fn take(answers: &mut Iter<'_, Answer>, ask: Ask) -> Result<Counts, Stands> {
     }
 }
 
-/// The same of what has to be done: an error ends the script.
+/// The same for what must succeed: an error ends the script.
 fn take_done(answers: &mut Iter<'_, Answer>, ask: Ask) -> Result<(), Stands> {
     match take(answers, ask)? {
         Counts::Error(errno) => Err(Stands::Over(Ends::Error(errno))),
@@ -139,7 +141,8 @@ fn take_done(answers: &mut Iter<'_, Answer>, ask: Ask) -> Result<(), Stands> {
     }
 }
 
-/// Moves the file at one place to the first candidate where nothing stands, and tells its index. Candidates stand from the other place on.
+/// Moves the file at one index to the first candidate at which nothing exists, and returns the candidate's index.
+/// Candidates start at the other index.
 fn hide(answers: &mut Iter<'_, Answer>, from: usize, first: usize) -> Result<usize, Stands> {
     for candidate in 0..CANDIDATES {
         let to = first.saturating_add(candidate);
@@ -155,14 +158,14 @@ fn hide(answers: &mut Iter<'_, Answer>, from: usize, first: usize) -> Result<usi
     Err(Stands::Over(Ends::Error(EBUSY)))
 }
 
-/// Where that of an UNLINK stands that hides.
+/// The state for an UNLINK that hides.
 fn unlink_after(answers: &[Answer]) -> Result<Ends, Stands> {
     let mut answers = answers.iter();
     Ok(Ends::Hid(hide(&mut answers, 0, 1)?))
 }
 
-/// Where that of a RENAME stands that hides: a folder does not take the place of a file, and a move that fails after the file was hidden says
-/// so.
+/// The state for a RENAME that hides: a folder cannot replace a file, and if a move fails after the file was hidden,
+/// the result says so.
 fn rename_after(answers: &[Answer]) -> Result<Ends, Stands> {
     let mut answers = answers.iter();
     match take(&mut answers, Ask::Stat(0))? {
@@ -177,7 +180,7 @@ fn rename_after(answers: &[Answer]) -> Result<Ends, Stands> {
     })
 }
 
-/// Where that of a RELEASE stands that removes its file: it is done, whatever comes of that.
+/// The state for a RELEASE that removes its file: it succeeds, whatever the answer is.
 fn release_after(answers: &[Answer]) -> Result<Ends, Stands> {
     let mut answers = answers.iter();
     Ok(match take(&mut answers, Ask::Remove)? {
@@ -186,7 +189,7 @@ fn release_after(answers: &[Answer]) -> Result<Ends, Stands> {
     })
 }
 
-/// Where that of a SETATTR stands: one part after another is set, and then it is looked at.
+/// The state for a SETATTR: one part after another is set, and then there is a Stat.
 fn set_after(asks: [Option<Ask>; 4], answers: &[Answer]) -> Result<Ends, Stands> {
     let mut answers = answers.iter();
     for ask in asks {
@@ -201,7 +204,7 @@ fn set_after(asks: [Option<Ask>; 4], answers: &[Answer]) -> Result<Ends, Stands>
     })
 }
 
-/// Where it stands, asking or over.
+/// The state: asking, or over.
 fn standing(ends: Result<Ends, Stands>) -> Stands {
     match ends {
         Ok(ends) => Stands::Over(ends),
@@ -209,7 +212,7 @@ fn standing(ends: Result<Ends, Stands>) -> Stands {
     }
 }
 
-/// Where the script of a request stands after these answers. Answers after its end are not looked at.
+/// The state of a request's script after these answers. Answers after its end are ignored.
 pub fn stands_after(
     settings: Settings,
     operation: Operation<'_>,

@@ -1,4 +1,4 @@
-//! Runs that fail, each with its status and its one line.
+//! Runs that fail, each with its exit status and its line on standard error.
 
 use crate::frames::{AGREED, INIT, LOOKUP_A, MAKE_M, bytes_of};
 use crate::host::Host;
@@ -10,7 +10,7 @@ use std::io;
 use std::io::{ErrorKind, Write};
 use std::test::Fail;
 
-/// Takes so many bytes, and then no more: a disk that is full, or a client that is gone.
+/// Takes `room` bytes and then fails: a full disk, or a client that has gone.
 #[derive(Drop)]
 struct Narrow {
     room: usize,
@@ -42,7 +42,8 @@ fn new_narrow(alloc: Global, room: usize, kind: ErrorKind) -> Narrow {
     }
 }
 
-/// The output breaks in the middle of the reply to MKDIR. The folder that it made stays, and the next request is not worked off.
+/// The output breaks in the middle of the reply to MKDIR. The folder that was made remains, and the next request is not
+/// handled.
 #[test]
 fn output_that_breaks_in_a_reply(rt: HostRuntime) -> Result<(), Fail> {
     for kind in [ErrorKind::BrokenPipe, ErrorKind::StorageFull] {
@@ -76,7 +77,8 @@ fn output_that_breaks_in_a_reply(rt: HostRuntime) -> Result<(), Fail> {
     Ok(())
 }
 
-/// Runs the program with these words on INIT: its status, and whether it wrote just that line and no reply.
+/// Runs the program with these arguments on an INIT and a LOOKUP. Returns its status, and whether it wrote just that
+/// line and no reply.
 fn told_by(
     rt: &impl Host,
     host: &HostRuntime,
@@ -99,7 +101,7 @@ fn what_is_no_folder(rt: HostRuntime) -> Result<(), Fail> {
         let line = format!(in rt.alloc(); "mirrord: {place} is not a folder\n")?;
         let pipe = ["mirrord", "pipe", "--root", place.as_str()];
         assert_eq!(rt; told_by(&rt, &rt, &pipe, line.as_str())?, (4, true));
-        // It is tested before the socket is made.
+        // The folder is tested before the socket is made.
         let socket = place_of(rt.alloc(), root.as_str(), "socket")?;
         let serve = [
             "mirrord",
@@ -115,7 +117,7 @@ fn what_is_no_folder(rt: HostRuntime) -> Result<(), Fail> {
     Ok(())
 }
 
-/// A path where something stands stays as it is.
+/// If there is something at the path already, it remains as it is.
 #[test]
 fn where_no_socket_can_be(rt: HostRuntime) -> Result<(), Fail> {
     let root = new_folder(&rt, "socket")?;

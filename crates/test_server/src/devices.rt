@@ -1,4 +1,4 @@
-//! The program `device`, over a device that tells what a row says, from its words to its exit status.
+//! The program `device`, from its arguments to its exit status, over a device that behaves as a row says.
 
 use crate::frames::{AGREED, ENTRY_A, INIT, LOOKUP_A, bytes_of};
 use crate::host::Host;
@@ -20,14 +20,14 @@ const CREATE_N: &str =
 const LOOKUP_N: &str =
     "2a000000 01000000 0700000000000000 0100000000000000 00000000 00000000 00000000 00000000 6e00";
 
-/// The entry of `n`, which is empty: node 2, born for the second time, of user 1000 and group 100.
+/// The entry of `n`, an empty file: node 2, born for the second time, of user 1000 and group 100.
 const ENTRY_OF_N_REBORN: &str = "90000000 00000000 0700000000000000 \
     0200000000000000 0100000000000000 0100000000000000 0100000000000000 00000000 00000000 \
     0200000000000000 0000000000000000 0000000000000000 \
     0000000000000000 0000000000000000 0000000000000000 00000000 00000000 00000000 \
     a4810000 01000000 e8030000 64000000 00000000 00100000 00000000";
 
-/// RELEASE of node 2 by the handle 1, unique 8, and EBADF for it.
+/// RELEASE of node 2 by handle 1, unique 8, and EBADF for it.
 const RELEASE: &str =
     "40000000 12000000 0800000000000000 0200000000000000 00000000 00000000 00000000 00000000 \
     0100000000000000 00000000 00000000 0000000000000000";
@@ -38,14 +38,15 @@ const NO_HANDLE: &str = "10000000 f7ffffff 0800000000000000";
 const OPEN_ROOT: &str =
     "30000000 1b000000 0300000000000000 0100000000000000 00000000 00000000 00000000 00000000 00000000 00000000";
 
-/// A run of the program on a new folder with the file `a`. Behind the reads nothing is mounted any more, and behind the writes all are whole.
+/// A run of the program on a new folder with the file `a`. After the listed reads the file system is no longer mounted,
+/// and after the listed writes all writes are complete.
 #[derive(Clone, Copy)]
 struct Run<'a> {
-    /// Names the row where it comes otherwise.
+    /// Names the row if it fails.
     says: &'a str,
     reads: &'a [Result<&'a str, i32>],
     writes: &'a [Written],
-    /// The bytes of each write that took some.
+    /// The bytes of each write that took some, in order.
     told: &'a [&'a str],
     status: u8,
     /// What is written on standard error.
@@ -161,7 +162,7 @@ fn device_of(alloc: Global, run: &Run, log: &Log) -> io::Result<Scripted> {
     })
 }
 
-/// How the program ended, and what it wrote on standard error.
+/// The exit status of the program, and what it wrote to standard error.
 #[derive(Drop)]
 struct Outcome {
     status: u8,
@@ -198,7 +199,7 @@ fn run_over<H: Host>(
     }
 }
 
-/// Whether the writes that took bytes are those, in that order.
+/// Whether the writes that took bytes are these, in this order.
 fn is_told(alloc: Global, log: &Log, told: &[&str]) -> io::Result<bool> {
     let Some(taken) = log.try_lock() else {
         return Ok(false);
@@ -231,7 +232,8 @@ fn device_is_served_as_the_rows_say(rt: HostRuntime) -> Result<(), Fail> {
     Ok(())
 }
 
-/// By workers, one request: what comes of it does not rest on their order.
+/// The same with workers. Only rows with at most one request after INIT are used, since their result does not depend on
+/// the order in which the workers run.
 #[test]
 fn device_is_served_by_workers(rt: HostRuntime) -> Result<(), Fail> {
     let alloc = rt.alloc();
@@ -249,7 +251,8 @@ fn device_is_served_by_workers(rt: HostRuntime) -> Result<(), Fail> {
     Ok(())
 }
 
-/// More folders than may be open at a time are opened, and nobody waits for the replies: each is closed again, and one more can be opened.
+/// More folders are opened than may be open at a time, and no reply is taken. Each folder is closed again, so one more
+/// can be opened.
 #[test]
 fn opened_folders_that_nobody_waits_for_are_closed(rt: HostRuntime) -> Result<(), Fail> {
     let alloc = rt.alloc();

@@ -1,15 +1,15 @@
-//! The frames that the client sends and the replies that it waits for, in hexadecimal digits. Spaces are for reading.
+//! The frames that the client sends and the replies that it expects, in hexadecimal digits. The spaces are for reading.
 
 use std::alloc::Global;
 use std::io;
 use std::io::ErrorKind;
 
-/// INIT 7.31 with 131,072 bytes read ahead and no flags, unique 1.
+/// INIT 7.31 with 131,072 bytes of read-ahead and no flags, unique 1.
 pub const INIT: &str =
     "38000000 1a000000 0100000000000000 0000000000000000 00000000 00000000 00000000 00000000 \
     07000000 1f000000 00000200 00000000";
 
-/// What is agreed on with it.
+/// The reply to it.
 pub const AGREED: &str = "50000000 00000000 0100000000000000 07000000 1f000000 00000100 00000000 \
     0c00 0900 00000100 01000000 0000 0000 \
     00000000 00000000 00000000 00000000 00000000 00000000 00000000 00000000";
@@ -25,7 +25,7 @@ pub const ENTRY_A: &str = "90000000 00000000 0700000000000000 \
     0000000000000000 0000000000000000 0000000000000000 00000000 00000000 00000000 \
     a4810000 01000000 e8030000 64000000 00000000 00100000 00000000";
 
-/// The same where it is node 3.
+/// The same if `a` is node 3.
 pub const ENTRY_OF_THREE: &str = "90000000 00000000 0700000000000000 \
     0300000000000000 0000000000000000 0100000000000000 0100000000000000 00000000 00000000 \
     0300000000000000 0300000000000000 0100000000000000 \
@@ -46,7 +46,7 @@ pub const ENTRY_M: &str = "90000000 00000000 0400000000000000 \
     0000000000000000 0000000000000000 0000000000000000 00000000 00000000 00000000 \
     ed410000 02000000 e8030000 64000000 00000000 00100000 00000000";
 
-/// The entry of `m` where it is node 2.
+/// The entry of `m` if it is node 2.
 pub const ENTRY_OF_M_ALONE: &str = "90000000 00000000 0400000000000000 \
     0200000000000000 0000000000000000 0100000000000000 0100000000000000 00000000 00000000 \
     0200000000000000 0000000000000000 0000000000000000 \
@@ -57,15 +57,15 @@ pub const ENTRY_OF_M_ALONE: &str = "90000000 00000000 0400000000000000 \
 pub const OPEN_ROOT: &str =
     "30000000 1b000000 0300000000000000 0100000000000000 00000000 00000000 00000000 00000000 00000000 00000000";
 
-/// Its handle is the first one, which a script writes as 1.
+/// The first handle, which a script writes as 1.
 pub const OPENED: &str = "20000000 00000000 0300000000000000 0100000000000000 00000000 00000000";
 
-/// READDIRPLUS of the first handle, which is of the root, unique 10, from the index 2 on in 160 bytes.
+/// READDIRPLUS by the first handle, which is of the root, unique 10, from index 2 on in 160 bytes.
 pub const READ_ONE: &str =
     "50000000 2c000000 0a00000000000000 0100000000000000 00000000 00000000 00000000 00000000 \
     0100000000000000 0200000000000000 a0000000 00000000 0000000000000000 00000000 00000000";
 
-/// The entry of `a`, which is node 3, a file of three bytes, of user 1000 and group 100. The next one has the index 3.
+/// The entry of `a`, which is node 3, a file of three bytes, of user 1000 and group 100. The next index is 3.
 pub const ONE_ENTRY: &str = "b0000000 00000000 0a00000000000000 \
     0300000000000000 0000000000000000 0100000000000000 0100000000000000 00000000 00000000 \
     0300000000000000 0300000000000000 0100000000000000 \
@@ -73,7 +73,7 @@ pub const ONE_ENTRY: &str = "b0000000 00000000 0a00000000000000 \
     a4810000 01000000 e8030000 64000000 00000000 00100000 00000000 \
     0300000000000000 0300000000000000 01000000 08000000 6100000000000000";
 
-/// The same from the index 3 on in 4,096 bytes, unique 11.
+/// The same from index 3 on in 4,096 bytes, unique 11.
 pub const READ_MORE: &str =
     "50000000 2c000000 0b00000000000000 0100000000000000 00000000 00000000 00000000 00000000 \
     0100000000000000 0300000000000000 00100000 00000000 0000000000000000 00000000 00000000";
@@ -86,7 +86,7 @@ pub const LAST_ENTRY: &str = "b0000000 00000000 0b00000000000000 \
     ed410000 02000000 e8030000 64000000 00000000 00100000 00000000 \
     0200000000000000 0400000000000000 01000000 04000000 6d00000000000000";
 
-/// The entry of `k` there, which is node 2, a file of five bytes.
+/// The entry of `k` at that index, which is node 2, a file of five bytes.
 pub const ENTRY_OF_K: &str = "b0000000 00000000 0b00000000000000 \
     0200000000000000 0000000000000000 0100000000000000 0100000000000000 00000000 00000000 \
     0200000000000000 0500000000000000 0100000000000000 \
@@ -94,7 +94,7 @@ pub const ENTRY_OF_K: &str = "b0000000 00000000 0b00000000000000 \
     a4810000 01000000 e8030000 64000000 00000000 00100000 00000000 \
     0200000000000000 0400000000000000 01000000 08000000 6b00000000000000";
 
-/// The same from the index 4 on, unique 12, and that no entry is left.
+/// READDIRPLUS from index 4 on, unique 12, and the reply that there are no more entries.
 pub const READ_ON: &str =
     "50000000 2c000000 0c00000000000000 0100000000000000 00000000 00000000 00000000 00000000 \
     0100000000000000 0400000000000000 00100000 00000000 0000000000000000 00000000 00000000";
@@ -130,7 +130,7 @@ pub const FORGET_THREE: &str =
 pub const ATTRIBUTES_OF_THREE: &str = "38000000 03000000 0600000000000000 0300000000000000 \
     00000000 00000000 00000000 00000000 00000000 00000000 00000000 00000000";
 
-/// GETATTR of a node that is unknown: ESTALE.
+/// The reply to GETATTR of an unknown node: ESTALE.
 pub const STALE: &str = "10000000 8cffffff 0600000000000000";
 
 /// CREATE `n` in the root, for reading and writing, unique 3.
@@ -162,7 +162,7 @@ pub const READ_TEN: &str = "50000000 0f000000 0800000000000000 0200000000000000 
     00000000 00000000 00000000 00000000 0100000000000000 0000000000000000 0a000000 00000000 \
     0000000000000000 00000000 00000000";
 
-/// Three zeros, and what was written behind them.
+/// Three zeros, followed by what was written after them.
 pub const ARE_FIVE: &str = "15000000 00000000 0800000000000000 000000 6465";
 
 /// UNLINK `n` in the root, unique 5.
@@ -188,7 +188,7 @@ pub const DESTROY: &str =
 /// Unique 2 is done.
 pub const DESTROYED: &str = "10000000 00000000 0200000000000000";
 
-/// The bytes that the pieces spell, one after another.
+/// The bytes that the pieces give, one after another.
 pub fn bytes_of(alloc: Global, pieces: &[&str]) -> io::Result<Vec<u8>> {
     let mut digits = Vec::new(alloc);
     for piece in pieces {

@@ -1,4 +1,4 @@
-//! What the tests take of the system.
+//! What the tests need of the system.
 
 use std::fs::File;
 use std::net::Net;

@@ -1,4 +1,4 @@
-//! Attributes of the host over a pipe: what is set and made is told, and stands there.
+//! Attributes of the host over a pipe: what is set or made is reported, and is so in the folder.
 
 use crate::frames::{AGREED, ATTRIBUTES, DESTROY, DESTROYED, FORGET_A, INIT, RELEASE, RENAMED};
 use crate::host::Host;
@@ -12,21 +12,23 @@ use std::{fs, io};
 const CREATE_N: &str = "3a000000 23000000 0300000000000000 0100000000000000 \
     00000000 00000000 00000000 00000000 02000000 80810000 00000000 00000000 6e00";
 
-/// SETATTR of node 2, unique 4: the mode 0o100640 alone. The size, the times and the owner do not count.
+/// SETATTR of node 2, unique 4: only the mode, 0o100640. The size, the times and the owner in the request are ignored.
 const SET_MODE: &str = "80000000 04000000 0400000000000000 0200000000000000 \
     00000000 00000000 00000000 00000000 \
     01000000 00000000 0000000000000000 6300000000000000 0000000000000000 \
     0100000000000000 0200000000000000 0300000000000000 04000000 05000000 06000000 \
     a0810000 00000000 e8030000 64000000 00000000";
 
-/// The same, unique 7: both times alone, to 1,000,000,000 seconds and 123,456,789 nanoseconds, and to 1,764,079,296 and 999,999,999.
+/// The same, unique 7: only the two times, to 1,000,000,000 seconds and 123,456,789 nanoseconds, and to 1,764,079,296
+/// and 999,999,999.
 const SET_TIMES: &str = "80000000 04000000 0700000000000000 0200000000000000 \
     00000000 00000000 00000000 00000000 \
     30000000 00000000 0000000000000000 6300000000000000 0000000000000000 \
     00ca9a3b00000000 c0b6256900000000 0300000000000000 15cd5b07 ffc99a3b 06000000 \
     ffffffff 00000000 e8030000 64000000 00000000";
 
-/// The same, unique 10: by handle 1 the mode 0o100604, the size 600, and both times, to 5 seconds and 6 nanoseconds, and to 7 and 8.
+/// The same by handle 1, unique 10: the mode 0o100604, the size 600, and both times, to 5 seconds and 6 nanoseconds,
+/// and to 7 and 8.
 const SET_MOST: &str = "80000000 04000000 0a00000000000000 0200000000000000 \
     00000000 00000000 00000000 00000000 \
     79000000 00000000 0100000000000000 5802000000000000 0000000000000000 \
@@ -46,8 +48,8 @@ const ASKS: &[&str] = &[
     DESTROY,
 ];
 
-/// What is answered: `.` stands for a digit that is the host's own affair, `i` for one of the inode number of `n`, and `o` for one of
-/// its owner's and its group's numbers.
+/// The expected replies: `.` is a digit that depends on the host, `i` is a digit of the inode number of `n`, and `o` is
+/// a digit of the numbers of its owner and group.
 const TOLD: &[&str] = &[
     AGREED,
     // Node 2, an empty file, and the first handle.
@@ -69,7 +71,7 @@ const TOLD: &[&str] = &[
     iiiiiiiiiiiiiiii 0000000000000000 0000000000000000 \
     00ca9a3b00000000 c0b6256900000000 ................ 15cd5b07 ffc99a3b ........ \
     a0810000 01000000 oooooooo oooooooo 00000000 00100000 00000000",
-    // 600 bytes in two blocks. Its times are set after its size.
+    // 600 bytes in two blocks. The times are set after the size.
     "78000000 00000000 0a00000000000000 0100000000000000 00000000 00000000 \
     iiiiiiiiiiiiiiii 5802000000000000 0200000000000000 \
     0500000000000000 0700000000000000 ................ 06000000 08000000 ........ \
@@ -90,7 +92,7 @@ const TOLD: &[&str] = &[
     DESTROYED,
 ];
 
-/// The digits of eight bytes that the system tells of `n`.
+/// Digits of numbers, eight bytes each, that the system reports for `n`.
 #[derive(Drop)]
 struct Known {
     ino: String,
@@ -109,12 +111,12 @@ fn known_of(rt: &impl Host, root: &str) -> io::Result<Known> {
     })
 }
 
-/// Sixteen letters in a row stand for these digits: the one that is waited for at the letter of that number.
+/// The digit that is expected at the letter with that number. Sixteen such letters in a row are all the digits.
 fn known_at(digits: &str, number: usize) -> Option<u8> {
     digits.as_bytes().get(number % 16).copied()
 }
 
-/// Whether these are the digits that are waited for.
+/// Whether these are the expected digits.
 fn are_told(digits: &str, told: &[&str], known: &Known) -> bool {
     let (mut at, mut inos, mut owners) = (0usize, 0usize, 0usize);
     for piece in told {
@@ -144,7 +146,8 @@ fn are_told(digits: &str, told: &[&str], known: &Known) -> bool {
     at == digits.len()
 }
 
-/// Runs `pipe` on that folder: its status, whether it was answered so, and whether it wrote nothing on standard error.
+/// Runs `pipe` on that folder. Returns its status, whether the replies are the expected ones, and whether it wrote
+/// nothing to standard error.
 fn told_in(rt: &impl Host, host: &HostRuntime, root: &str) -> Result<(u8, bool, bool), Fail> {
     let words = ["mirrord", "pipe", "--root", root, "--attributes", "host"];
     let out = run_words(rt, host, &words, ASKS, Vec::new(rt.alloc()))?;

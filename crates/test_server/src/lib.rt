@@ -1,4 +1,5 @@
-//! Tests of the programs that serve a folder: over standard input and output, over a socket with a client of its own, and over a device.
+//! Tests of the programs that serve a folder: over standard input and output, over a socket with a client, and over a
+//! device.
 #![tactic(auto)]
 
 #[cfg(test)]

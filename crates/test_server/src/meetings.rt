@@ -1,4 +1,4 @@
-//! The program `serve` with a client of its own, in one process: two threads and a socket between them.
+//! The program `serve` with a client in the same process: two threads and a socket between them.
 
 use crate::frames::{
     AGREED, ARE_FIVE, ARE_OF_A, ATTRIBUTES, ATTRIBUTES_OF_THREE, CREATE_N, CREATED_N, DESTROY,
@@ -20,26 +20,26 @@ use test_support::Handles;
 /// What a client does next.
 #[derive(Clone, Copy)]
 pub enum Turn<'a> {
-    /// It writes this, and then waits for that.
+    /// It writes the first, and then expects the second.
     Asks(&'a str, &'a str),
-    /// It looks into the folder that is served: what stands at a name.
+    /// It expects this at a name of the served folder.
     Sees(&'a str, Shown),
 }
 
 use Turn::{Asks, Sees};
 
-/// A client: what it does in turn, and what must come of it.
+/// A client: what it does, and what the result must be.
 #[derive(Clone, Copy)]
 pub struct Meeting<'a> {
     says: &'a str,
-    /// What it does, one after another. It leaves after the last of them.
+    /// What it does, one after another. It disconnects after the last.
     pub turns: &'a [Turn<'a>],
     status: u8,
     pub fault: &'a str,
     after: &'a [(&'a str, Shown)],
 }
 
-/// Connects to a socket that is made in a moment.
+/// Connects to a socket that will be made in a moment.
 pub fn connect(rt: &impl Host, path: &str) -> io::Result<UnixStream> {
     for _try in 0..2000 {
         match UnixStream::connect(rt, path) {
@@ -50,7 +50,8 @@ pub fn connect(rt: &impl Host, path: &str) -> io::Result<UnixStream> {
     UnixStream::connect(rt, path)
 }
 
-/// Writes what is asked, and reads as many bytes as are waited for. True says that they came. Handles of open folders are as in a script.
+/// Writes the request, and reads as many bytes as are expected. Returns whether they came as expected. Handles of open
+/// folders are written as in a script.
 fn ask(
     rt: &impl Host,
     stream: &mut UnixStream,
@@ -69,7 +70,7 @@ fn ask(
     Ok(came.as_slice() == told.as_slice())
 }
 
-/// Whether a turn came out as it should.
+/// Whether a turn went as it should.
 fn is_right(
     rt: &impl Host,
     root: &str,
@@ -83,7 +84,8 @@ fn is_right(
     }
 }
 
-/// How many of its turns came out as they should.
+/// Does the turns one after another, up to the first that does not go as it should. Returns how many went as they
+/// should.
 pub fn be_client(rt: &impl Host, root: &str, path: &str, turns: &[Turn]) -> u64 {
     let mut right = 0u64;
     let Ok(mut stream) = connect(rt, path) else {
@@ -99,13 +101,13 @@ pub fn be_client(rt: &impl Host, root: &str, path: &str, turns: &[Turn]) -> u64 
     right
 }
 
-/// The word of a command line for a session on one thread.
+/// The argument for a session on one thread.
 pub const ONE_THREAD: &str = "-s";
 
-/// It, and the word for four workers.
+/// That argument, and the one for four workers.
 const EITHER: &[&str] = &[ONE_THREAD, "--workers=4"];
 
-/// Runs `serve`: its status, and whether it wrote just that line.
+/// Runs `serve`. Returns its status, and whether it wrote just that line.
 pub fn be_server(
     rt: &impl Host,
     host: &HostRuntime,
@@ -125,7 +127,7 @@ pub fn be_server(
     (ended.status, is_told && ended.output.is_empty())
 }
 
-/// What came of it is what the row says.
+/// Fails if the result is not what the row says.
 pub fn judge(
     rt: &impl Host,
     root: &str,
@@ -136,14 +138,14 @@ pub fn judge(
     if served != (row.status, true) || right != row.turns.len() as u64 {
         return Err(Fail::from((row.says, served, right)));
     }
-    // The file of the socket is gone.
+    // The socket file has been removed.
     expect(rt, root, &[("socket", Shown::Nothing)])?;
     expect(rt, root, row.after)
 }
 
 const UNTOUCHED: &[(&str, Shown)] = &[("a", Shown::File(3))];
 
-/// Each client leaves otherwise.
+/// Each client ends its session differently.
 pub const MEETINGS: &[Meeting] = &[
     Meeting {
         says: "a whole session",
@@ -252,7 +254,8 @@ pub const MEETINGS: &[Meeting] = &[
     },
 ];
 
-/// All that a client of files asks, with looks into the folder between. It stands alone, since a test over more of them is too large to check.
+/// All that a client of files asks for, with looks at the folder in between. It is a list of its own, since a test over
+/// more rows with this one is too large to check.
 const WHOLE: &[Meeting] = &[Meeting {
     says: "files are made, moved, listed, forgotten and removed while they are open",
     turns: &[
@@ -286,7 +289,8 @@ const WHOLE: &[Meeting] = &[Meeting {
     ],
 }];
 
-// Threads are joined in the tests themselves: what a thread is sent rests on the runtime, and not on a bound.
+// The threads are joined in the tests themselves: whether a closure may be sent to a thread depends on the concrete
+// runtime, not on a bound.
 #[test]
 fn clients_over_a_socket(rt: HostRuntime) -> Result<(), Fail> {
     for row in MEETINGS {
@@ -305,7 +309,7 @@ fn clients_over_a_socket(rt: HostRuntime) -> Result<(), Fail> {
     Ok(())
 }
 
-// With workers a request may overtake a FORGET before it, so that no reply tells of it.
+// One thread only: workers may handle a request before an earlier FORGET, and no reply shows when a FORGET is done.
 #[test]
 fn whole_session_over_a_socket(rt: HostRuntime) -> Result<(), Fail> {
     for row in WHOLE {

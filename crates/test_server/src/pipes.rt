@@ -1,4 +1,4 @@
-//! The program `pipe`, from its words to its exit status.
+//! The program `pipe`, from its arguments to its exit status.
 
 use crate::frames::{
     ABSENT, AGREED, ARE_OF_A, ATTRIBUTES, DESTROY, DESTROYED, ENTRY_A, ENTRY_M, ENTRY_OF_M_ALONE,
@@ -13,7 +13,7 @@ use std::test::Fail;
 /// A run of the program on a new folder.
 #[derive(Clone, Copy)]
 pub struct Run<'a> {
-    /// Names the row where it comes otherwise.
+    /// Names the row if it fails.
     pub says: &'a str,
     /// What the client writes.
     pub asks: &'a [&'a str],
@@ -22,11 +22,11 @@ pub struct Run<'a> {
     pub status: u8,
     /// What is written on standard error.
     pub fault: &'a str,
-    /// How the folder looks then.
+    /// What is in the folder afterwards.
     pub after: &'a [(&'a str, Shown)],
 }
 
-/// How a run came out: what was written on standard error, and how it ended.
+/// The result of a run: its exit status, its output, and what was written to standard error.
 #[derive(Drop)]
 pub struct Outcome<O: Drop> {
     pub status: u8,
@@ -34,7 +34,7 @@ pub struct Outcome<O: Drop> {
     pub faults: Vec<u8>,
 }
 
-/// Runs the program with these words.
+/// Runs the program with these arguments.
 pub fn run_words<H: Host, O: Write + Drop>(
     rt: &H,
     host: &HostRuntime,
@@ -83,7 +83,7 @@ fn run_in(rt: &impl Host, host: &HostRuntime, root: &str, row: &Run) -> Result<(
     expect(rt, root, row.after)
 }
 
-/// Each run as its row says.
+/// Each run must end as its row says.
 const RUNS: &[Run] = &[
     Run {
         says: "no bytes",

@@ -1,16 +1,16 @@
-//! Folders to begin with, and how they look.
+//! Folders to begin with, and what is in them.
 
 use crate::host::Host;
 use std::alloc::{AllocError, Global};
 use std::test::Fail;
 use std::{env, fs, io, process};
 
-/// Where the name stands in the folder.
+/// The path of the name in the folder.
 pub fn place_of(alloc: Global, root: &str, name: &str) -> Result<String, AllocError> {
     format!(in alloc; "{root}/{name}")
 }
 
-/// A new folder for the test of that name, with a file `a` that holds `abc` and nothing of an earlier run in it.
+/// A new folder for the test with that name. It has a file `a` that contains `abc`, and nothing from an earlier run.
 pub fn new_folder(rt: &HostRuntime, name: &str) -> io::Result<String> {
     let place = env::temp_dir(rt)?;
     let path = format!(in rt.alloc();
@@ -28,16 +28,16 @@ pub fn new_folder(rt: &HostRuntime, name: &str) -> io::Result<String> {
     Ok(path)
 }
 
-/// What stands at a name of a folder.
+/// What is at a name of a folder.
 #[derive(Clone, Copy, Debug, PartialEq, Eq)]
 pub enum Shown {
     Nothing,
     Folder,
-    /// A file of so many bytes.
+    /// A file of that many bytes.
     File(u64),
 }
 
-/// What stands at a name of the folder.
+/// What is at a name of the folder.
 pub fn shown_at(rt: &impl Host, root: &str, name: &str) -> Result<Shown, AllocError> {
     let place = place_of(rt.alloc(), root, name)?;
     Ok(match fs::metadata(rt, place.as_str()) {
@@ -47,7 +47,7 @@ pub fn shown_at(rt: &impl Host, root: &str, name: &str) -> Result<Shown, AllocEr
     })
 }
 
-/// Each name of the folder is as said.
+/// Fails unless each of these names in the folder is as expected.
 pub fn expect(rt: &impl Host, root: &str, after: &[(&str, Shown)]) -> Result<(), Fail> {
     for (name, wanted) in after {
         if shown_at(rt, root, name)? != *wanted {

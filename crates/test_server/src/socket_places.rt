@@ -1,4 +1,4 @@
-//! Where the socket of `serve` stands, and what else may stand there.
+//! Where the socket of `serve` may be, and what else may be there.
 
 use crate::host::Host;
 use crate::meetings::{MEETINGS, ONE_THREAD, be_client, be_server, connect, judge};
@@ -6,7 +6,7 @@ use crate::sample_folders::{Shown, expect, new_folder, place_of};
 use std::test::Fail;
 use std::{env, fs, thread};
 
-// It leads on from where the server was started, not from the folder that is served.
+// The path is relative to the folder in which the server was started, not to the folder that it serves.
 #[test]
 fn a_relative_socket(rt: HostRuntime) -> Result<(), Fail> {
     let root = new_folder(&rt, "relative")?;
@@ -22,7 +22,7 @@ fn a_relative_socket(rt: HostRuntime) -> Result<(), Fail> {
     judge(&rt, there, row, served, right)
 }
 
-/// Connects, puts a file of three bytes in the place of the socket's, and leaves.
+/// Connects, replaces the socket file by a file of three bytes, and disconnects.
 fn replace_socket(rt: &impl Host, path: &str) -> bool {
     let Ok(_stream) = connect(rt, path) else {
         return false;
@@ -30,7 +30,7 @@ fn replace_socket(rt: &impl Host, path: &str) -> bool {
     fs::remove_file(rt, path).is_ok() && fs::write(rt, path, "abc").is_ok()
 }
 
-// What somebody put in its place during the session stays at its end.
+// If another file has replaced the socket file during the session, the end of the session does not remove it.
 #[test]
 fn another_file_in_the_place_of_the_socket(rt: HostRuntime) -> Result<(), Fail> {
     let root = new_folder(&rt, "replaced")?;

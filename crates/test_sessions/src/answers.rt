@@ -1,4 +1,4 @@
-//! What stories are answered, as bytes.
+//! The replies in stories, as bytes.
 
 use crate::stories::{Says, Stands};
 use ops::Settings;
@@ -15,8 +15,8 @@ const BEGINNING: Time = Time {
     nanos: 0,
 };
 
-/// The attributes of a node. Those that are fixed tell its number as that of the inode, and a tree in memory, whose inodes have no numbers, 0.
-/// All else is alike.
+/// The attributes of a node. Fixed ones have its number as the inode number; in a tree in memory, whose files have no
+/// inode numbers, that is 0. Everything else is the same.
 fn attributes_of(settings: Settings, node: u64, stands: Stands) -> Attributes {
     let (kind, size, permissions, links) = match stands {
         Stands::File(size) => (wire::Kind::File, size, 0o644, 1),
@@ -83,7 +83,7 @@ fn entries_of(
     Ok(ReplyBody::Data(Payload::new(bytes)))
 }
 
-/// Nothing, where it gets no reply.
+/// None, if it gets no reply.
 fn body_of(alloc: Global, settings: Settings, says: Says) -> Result<Option<ReplyBody>, AllocError> {
     Ok(Some(match says {
         Says::Failed(errno) => ReplyBody::Failed { errno },
@@ -106,7 +106,7 @@ fn body_of(alloc: Global, settings: Settings, says: Says) -> Result<Option<Reply
     }))
 }
 
-/// What is agreed on with INIT 7.31.
+/// The answer to INIT 7.31.
 const AGREED: ReplyBody = ReplyBody::Init(InitOut {
     major: 7,
     minor: 31,
@@ -119,7 +119,7 @@ const AGREED: ReplyBody = ReplyBody::Init(InitOut {
     max_pages: 0,
 });
 
-/// The reply to INIT, unique 0, and what the requests are answered, which are numbered from 1.
+/// The reply to INIT, unique 0, and the replies to the requests, which are numbered from 1.
 pub fn replies_of(
     alloc: Global,
     settings: Settings,

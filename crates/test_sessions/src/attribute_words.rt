@@ -1,4 +1,4 @@
-//! Command lines that say whose attributes are told.
+//! Command lines that say whose attributes are reported.
 
 use crate::frames::run_words;
 use engine::Settings;
@@ -6,7 +6,7 @@ use mirrord_programs::{Options, OptionsRefusal, read_options};
 use std::alloc::Global;
 use std::test::Fail;
 
-/// A command line, and the settings that it serves by.
+/// A command line, and the settings that it leads to.
 #[derive(Clone, Copy)]
 struct Served(&'static [&'static str], Settings);
 
@@ -79,7 +79,7 @@ fn whose_attributes(rt: HostRuntime) -> Result<(), Fail> {
     Ok(())
 }
 
-/// A command line that can be read and is refused, why, and what is written on standard error.
+/// A command line that can be read but is refused, why, and what is written on standard error.
 #[derive(Clone, Copy)]
 struct Refused(&'static [&'static str], OptionsRefusal, &'static str);
 
@@ -101,7 +101,7 @@ const REFUSED: &[Refused] = &[
         OptionsRefusal::Owner,
         WITH_OWNER,
     ),
-    // The owner that is told where none is given.
+    // The owner that is used by default.
     Refused(
         &[
             "mirrord",
@@ -137,7 +137,7 @@ const REFUSED: &[Refused] = &[
         OptionsRefusal::Attributes,
         NEITHER,
     ),
-    // What is told of attributes comes before what is told of an owner.
+    // A refusal because of the attributes comes before one because of an owner.
     Refused(
         &[
             "mirrord",
@@ -160,7 +160,7 @@ const REFUSED: &[Refused] = &[
         OptionsRefusal::Counts,
         NO_COUNTS,
     ),
-    // What is told of attributes comes before what is told of counts.
+    // A refusal because of the attributes comes before one because of the counts.
     Refused(
         &[
             "mirrord",

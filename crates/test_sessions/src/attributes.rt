@@ -1,4 +1,4 @@
-//! Scripts that ask what stands, or set a size, with their errors.
+//! Requests for attributes, or that set a size, with their errors.
 
 use crate::requests::{MAKE_M, NOTHING_NEW};
 use crate::stories::Says::{Attributes, Entry, Failed, Sizes};
@@ -11,7 +11,7 @@ use std::marker::Brand;
 use std::test::Fail;
 use wire::Operation::{GetAttr, Lookup, SetAttr, StatFs};
 
-/// What stands at nodes, and sizes of the file system.
+/// The attributes of nodes, and the sizes of the file system.
 const ATTRIBUTES: &[Story] = &[
     Story {
         says: "attributes of the root, a file and a folder",
@@ -230,7 +230,7 @@ fn sizes(rt: HostRuntime) -> Result<(), Fail> {
     Ok(())
 }
 
-/// The root and one node more may live.
+/// There may be one node besides the root.
 const NODE_LIMIT: &[Story] = &[Story {
     says: "two nodes",
     nodes: 2,

@@ -1,4 +1,4 @@
-//! Lookups that are given back in batches.
+//! Lookups that are forgotten in batches.
 
 use crate::frames::{ABSENT, ENTRY_A, ENTRY_E_REBORN, LOOKUP_A, LOOKUP_E, LOOKUP_ZZ};
 use crate::row::{NOTHING as NO_LINES, Row, run_rows};
@@ -11,7 +11,7 @@ use std::marker::Brand;
 use std::test::Fail;
 use wire::Operation::{BatchForget, Lookup, OpenDir};
 
-/// Lookups that are given back of two nodes at once: both numbers are free again, and the least is taken first.
+/// Lookups of two nodes are forgotten at once: both numbers are free again, and the least is used first.
 const STORIES: &[Story] = &[Story {
     says: "two nodes, one more that is unknown, the root, and no pair",
     asks: &[

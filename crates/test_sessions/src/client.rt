@@ -1,4 +1,4 @@
-//! A client that is scripted, and sessions with it.
+//! A scripted client, and sessions with it.
 
 ghost use Rattle.std.specs.Prelude.{◌≡◌};
 
@@ -15,8 +15,8 @@ use std::sync::Wait;
 use table::{Limits, Seeds, Table};
 use test_support::Handles;
 
-/// Gives its frames one after another, and takes all replies but one. It records what passes. Handles of open folders stand in its
-/// frames and replies as the places in which they came (`Handles`).
+/// Sends its frames one after another, and takes all replies except one. It records the traffic. In its frames and
+/// replies, handles of open folders are given by their positions (`Handles`).
 #[derive(Drop)]
 pub struct Client {
     frames: Vec<Vec<u8>>,
@@ -27,7 +27,7 @@ pub struct Client {
     declined: u32,
     /// Whether the link breaks at it.
     breaks: bool,
-    /// The replies that were taken, one after another.
+    /// The replies that were taken, in order.
     pub taken: Vec<u8>,
     failures: u64,
     log: Memory,
@@ -57,7 +57,7 @@ impl Client {
         }
     }
 
-    /// What passed, a line each.
+    /// The traffic, one line each.
     pub fn into_record(self) -> Lines {
         self.log.into_lines()
     }
@@ -100,7 +100,7 @@ impl LinkOut for Client {
 
     fn send(&mut self, frame: &[u8]) -> Sent {
         self.sends = self.sends.saturating_add(1);
-        // Its handle is read whether it is then taken or not.
+        // The handle in it is read whether or not the reply is then taken.
         let told = self.handles.told(*self.taken.allocator(), frame);
         info!(self.log; target: "link", "{} bytes are offered", frame.len());
         if self.sends == self.declined {
@@ -131,17 +131,17 @@ impl Link for Client {
     ghost one_count = { λ _. refl };
 }
 
-/// Nobody owns what is mirrored, and all attributes are fixed.
+/// Fixed attributes; the owner is user 0 and group 0.
 pub const FIXED: Settings = Settings::Fixed { uid: 0, gid: 0 };
 
-/// How a session ended, and what its share counts.
+/// How a session ended, and the totals of its share.
 #[derive(Clone, Copy, Debug, PartialEq, Eq)]
 pub struct Over {
     pub end: SessionEnd,
     pub totals: Totals,
 }
 
-/// Serves a tree, and open folders, to a client by these settings, with a table of these limits.
+/// Serves a tree and open folders to a client with these settings, with a table with these limits.
 pub fn serve_client<H: Wait + RandomSource, T: Ledgers, D: Folders>(
     rt: &H,
     alloc: Global,

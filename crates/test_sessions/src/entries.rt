@@ -132,7 +132,7 @@ fn pages_of_entries(rt: HostRuntime) -> Result<(), Fail> {
     Ok(())
 }
 
-/// Names that are not there as they were listed.
+/// Names that no longer are as they were listed.
 const LOOKS: &[Story] = &[
     Story {
         says: "one that is gone has no node and is not counted, and the kind of its listing",

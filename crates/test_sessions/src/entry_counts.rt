@@ -1,4 +1,4 @@
-//! READDIRPLUS: what its entries count, and the pages that are refused.
+//! READDIRPLUS: the lookups that its entries count, and pages that are refused.
 
 use crate::stories::Says::{Attributes, Done, Entries, Entry, Failed, Names, NoReply, Opened};
 use crate::stories::Stands::{File, Folder};
@@ -11,7 +11,7 @@ use wire::Operation::{
     Forget, GetAttr, Lookup, OpenDir, ReadDir, ReadDirPlus, ReleaseDir, RemoveDir,
 };
 
-/// Each entry that is told counts, and no other.
+/// Each entry in a reply counts, and no other.
 const COUNTS: &[Story] = &[
     Story {
         says: "one that had no room is unknown, and one that was told twice goes with two",
@@ -102,7 +102,7 @@ fn entries_count(rt: HostRuntime) -> Result<(), Fail> {
     Ok(())
 }
 
-/// Handles that are none, pages that do not fit, and folders that are gone.
+/// Handles that do not exist, pages that do not fit, and folders that are gone.
 const REFUSALS: &[Story] = &[
     Story {
         says: "a handle of another node, one that was not given, and one that was given up",

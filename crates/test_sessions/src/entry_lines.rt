@@ -44,8 +44,8 @@ const ATTRIBUTES_OF_FOUR: &str =
 
 const UNKNOWN_FOUR: &str = "10000000 8cffffff 0b00000000000000";
 
-/// A folder with `a`, a file of three bytes, and `b`, an empty one, alone: the pages from the index 2 on of 319, 320 and 159 bytes, and the one
-/// from the index 4 on. In between the one lookup of `a` is given back, and it is born again.
+/// A folder with only `a`, a file of three bytes, and `b`, an empty one: the pages from index 2 on of 319, 320 and 159
+/// bytes, and the one from index 4 on. In between the only lookup of `a` is forgotten, and it is born again.
 const PAGE_SIZES: Lines = Lines {
     settings: FIXED,
     lines: &[
@@ -97,7 +97,7 @@ fn page_sizes(rt: HostRuntime) -> Result<(), Fail> {
     tell_lines::<HostRuntime, Brand>(&rt, rt.alloc(), Blanks::new(1), PAGE_SIZES)
 }
 
-/// `.` has an entry of zeros, and so has a name that is gone: 144 bytes but for where it stands, its kind and its name.
+/// `.` has an entry of zeros, and so has a name that is gone: 144 bytes except for the offset, the type and the name.
 const ZEROS: Lines = Lines {
     settings: FIXED,
     lines: &[

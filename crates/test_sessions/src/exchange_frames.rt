@@ -5,15 +5,15 @@ use crate::frames::{ENTRY_A, LOOKUP_A};
 use crate::row::{NOTHING, Row, run_rows};
 use std::test::Fail;
 
-/// RENAME2 of `a` to `e` in the root that replaces nothing, unique 11.
+/// RENAME2 of `a` to `e` in the root without replacing anything, unique 11.
 const KEEP_E: &str =
     "3c000000 2d000000 0b00000000000000 0100000000000000 00000000 00000000 00000000 00000000 \
     0100000000000000 01000000 00000000 6100 6500";
 
-/// The first handle, of OPEN_A.
+/// The first handle, from OPEN_A.
 const OPENED: &str = "20000000 00000000 0800000000000000 0100000000000000 00000000 00000000";
 
-/// LOOKUP `d` in the root, unique 10; and its entry where it is the second that was found: node 3, generation 0, a folder.
+/// LOOKUP `d` in the root, unique 10; and its entry if it is the second that was found: node 3, generation 0, a folder.
 const LOOKUP_D: &str =
     "2a000000 01000000 0a00000000000000 0100000000000000 00000000 00000000 00000000 00000000 6400";
 
@@ -34,7 +34,7 @@ const ENTRY_X: &str = "90000000 00000000 0c00000000000000 \
     0000000000000000 0000000000000000 0000000000000000 00000000 00000000 00000000 \
     ed410000 02000000 00000000 00000000 00000000 00100000 00000000";
 
-/// The exchange of `a` and `d` in the root, unique 13.
+/// Exchanging `a` and `d` in the root, unique 13.
 const EXCHANGE_A_D: &str =
     "3c000000 2d000000 0d00000000000000 0100000000000000 00000000 00000000 00000000 00000000 \
     0100000000000000 02000000 00000000 6100 6400";
@@ -69,7 +69,7 @@ const ENTRY_X_AFTER: &str = "90000000 00000000 1000000000000000 \
     0000000000000000 0000000000000000 0000000000000000 00000000 00000000 00000000 \
     ed410000 02000000 00000000 00000000 00000000 00100000 00000000";
 
-/// What RENAME2 is answered.
+/// Replies to RENAME2.
 const ROWS: &[Row] = &[
     Row {
         says: "nothing is replaced",

@@ -10,7 +10,7 @@ use std::marker::Brand;
 use std::test::Fail;
 use wire::Operation::{GetAttr, Lookup, Open, Read, Rename2, Write};
 
-/// Names that change places.
+/// Names that are exchanged.
 const EXCHANGES: &[Story] = &[
     Story {
         says: "a file and a folder change places: nodes keep their numbers, with all below",

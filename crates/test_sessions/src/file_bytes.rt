@@ -1,4 +1,4 @@
-//! What is read from open files, and written to them.
+//! Reading from open files, and writing to them.
 
 use crate::requests::CREATE_N;
 use crate::stories::Says::{Attributes, Bytes, Created, Done, Entry, Failed, Opened, Wrote};

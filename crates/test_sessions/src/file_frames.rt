@@ -21,12 +21,12 @@ pub const CREATED_N: &str = "a0000000 00000000 0300000000000000 \
 pub const OPEN_A: &str =
     "30000000 0e000000 0800000000000000 0200000000000000 00000000 00000000 00000000 00000000 00000000 00000000";
 
-/// READ of ten bytes by handle 1 of node 2, unique 5.
+/// READ of ten bytes with handle 1 of node 2, unique 5.
 pub const READ_TEN: &str =
     "50000000 0f000000 0500000000000000 0200000000000000 00000000 00000000 00000000 00000000 \
     0100000000000000 0000000000000000 0a000000 00000000 0000000000000000 00000000 00000000";
 
-/// FLUSH by handle 1 of node 2, unique 6.
+/// FLUSH with handle 1 of node 2, unique 6.
 pub const FLUSH: &str =
     "40000000 19000000 0600000000000000 0200000000000000 00000000 00000000 00000000 00000000 \
     0100000000000000 00000000 00000000 0000000000000000";
@@ -34,17 +34,17 @@ pub const FLUSH: &str =
 /// EBADF for unique 6.
 pub const FLUSH_REFUSED: &str = "10000000 f7ffffff 0600000000000000";
 
-/// WRITE of `de` at byte 3 by handle 1 of node 2, unique 4.
+/// WRITE of `de` at byte 3 with handle 1 of node 2, unique 4.
 const WRITE_DE: &str =
     "52000000 10000000 0400000000000000 0200000000000000 00000000 00000000 00000000 00000000 \
     0100000000000000 0300000000000000 02000000 00000000 0000000000000000 00000000 00000000 6465";
 
-/// FSYNC by handle 1 of node 2, unique 6.
+/// FSYNC with handle 1 of node 2, unique 6.
 const FSYNC: &str =
     "38000000 14000000 0600000000000000 0200000000000000 00000000 00000000 00000000 00000000 \
     0100000000000000 00000000 00000000";
 
-/// What each request of an open file is answered.
+/// Replies to requests about an open file.
 const ROWS: &[Row] = &[
     Row {
         says: "a file is made, written, read, brought to the disk and closed once",
@@ -89,7 +89,7 @@ fn open_file_frames(rt: HostRuntime) -> Result<(), Fail> {
     run_rows(&rt, rt.alloc(), ROWS)
 }
 
-/// WRITE that says four bytes and has three, unique 9; and READ by the same handle.
+/// WRITE that says four bytes and has three, unique 9; and READ with the same handle.
 const WRITE_SIZE: &[Row] = &[Row {
     says: "nothing is written",
     lines: &[

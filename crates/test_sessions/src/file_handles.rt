@@ -1,4 +1,4 @@
-//! Handles of files: made up, of another node, without the access, and given up.
+//! Handles of files: invented, of another node, without the access, and closed.
 
 use crate::requests::NOTHING_NEW;
 use crate::stories::Says::{Attributes, Bytes, Done, Entry, Failed, Opened, Wrote};
@@ -214,7 +214,7 @@ fn handles_of_files(rt: HostRuntime) -> Result<(), Fail> {
     Ok(())
 }
 
-/// Handles that are given up.
+/// Handles that are closed.
 const RELEASED: &[Story] = &[
     Story {
         says: "a handle is given up once, and given to no other file",

@@ -7,7 +7,7 @@ use ledger::Blanks;
 use std::marker::Brand;
 use std::test::Fail;
 
-/// A folder with `a` and `b` alone: its first entry is itself, and is all that 32 bytes have room for.
+/// A folder with only `a` and `b`: its first entry is the folder itself, and 32 bytes have room for only that one.
 const FIRST: Lines = Lines {
     settings: FIXED,
     lines: &[
@@ -39,7 +39,7 @@ const OPEN_ROOT: &str =
 
 const OPENED: &str = "20000000 00000000 0300000000000000 0100000000000000 00000000 00000000";
 
-/// The root from the index 2 on in 96, 95 and 31 bytes, and from the index 5 on, where no entry is left.
+/// The root from index 2 on in 96, 95 and 31 bytes, and from index 5 on, where no entry is left.
 const PAGES: Lines = Lines {
     settings: FIXED,
     lines: &[

@@ -1,4 +1,4 @@
-//! Scripts that make folders and remove names, with their errors.
+//! Requests that make folders and remove names, with their errors.
 
 use crate::requests::{MAKE_A, MAKE_D, MAKE_M, MAKE_N, MAKE_RESERVED};
 use crate::stories::Says::{Done, Entry, Failed};
@@ -165,7 +165,7 @@ fn removals(rt: HostRuntime) -> Result<(), Fail> {
     Ok(())
 }
 
-/// UNLINK of `d/x` fails after its work, so its node stays named until its folder goes.
+/// UNLINK of `d/x` fails after its work, so its node keeps its name until its folder is removed.
 const FAILED_REMOVE_THEN_RMDIR: &[Story] = &[Story {
     says: "a failed removal, and then its folder's",
     files: &[&["d", "x"]],

@@ -1,4 +1,5 @@
-//! The frames that the tests send and the replies that they wait for, in hexadecimal digits. Spaces are for reading.
+//! The frames that the tests send and the replies that they expect, in hexadecimal digits. Spaces are only for
+//! readability.
 
 use mirrord_programs::{DEFAULT_POSTINGS, Standard, hex_run, run};
 use std::alloc::{AllocError, Global};
@@ -17,7 +18,7 @@ pub const INIT: &str =
     "38000000 1a000000 0100000000000000 0000000000000000 00000000 00000000 00000000 00000000 \
     07000000 1f000000 00000200 00000000";
 
-/// What is agreed on with it.
+/// The answer to it.
 pub const AGREED: &str = "50000000 00000000 0100000000000000 07000000 1f000000 00000100 00000000 \
     0c00 0900 00000100 01000000 0000 0000 \
     00000000 00000000 00000000 00000000 00000000 00000000 00000000 00000000";
@@ -37,7 +38,7 @@ pub const ENTRY_A: &str = "90000000 00000000 0700000000000000 \
 pub const LOOKUP_E: &str =
     "2a000000 01000000 0800000000000000 0100000000000000 00000000 00000000 00000000 00000000 6500";
 
-/// The entry of `e` where number 2 was born before: node 2, generation 1, an empty file.
+/// The entry of `e` if number 2 was born before: node 2, generation 1, an empty file.
 pub const ENTRY_E_REBORN: &str = "90000000 00000000 0800000000000000 \
     0200000000000000 0100000000000000 0100000000000000 0100000000000000 00000000 00000000 \
     0200000000000000 0000000000000000 0000000000000000 \
@@ -77,7 +78,7 @@ pub const FULL: &str = "10000000 e9ffffff 0700000000000000";
 pub const DESTROY: &str =
     "28000000 26000000 0200000000000000 0000000000000000 00000000 00000000 00000000 00000000";
 
-/// What a run of the program `hex` left behind.
+/// The result of a run of the program `hex`.
 #[derive(Drop)]
 pub struct Run {
     pub status: u8,
@@ -130,7 +131,7 @@ pub fn run_on(rt: &(impl Wait + RandomSource), alloc: Global, input: &[u8]) -> i
     run_from(rt, alloc, true, input)
 }
 
-/// Runs `hex` with the sample names on these bytes, with so much room for what it writes.
+/// Runs `hex` with the sample names on these bytes, with that much room for its output.
 pub fn run_into(
     rt: &(impl Wait + RandomSource),
     alloc: Global,

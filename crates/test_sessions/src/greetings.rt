@@ -1,4 +1,4 @@
-//! How a session begins and ends: INIT, DESTROY, and frames before and after them.
+//! The beginning and the end of a session: INIT, DESTROY, and frames before and after them.
 
 use crate::frames::{ABSENT, AGREED, DESTROY, INIT, LOOKUP_A, LOOKUP_ZZ};
 use crate::row::{NOTHING, Row, run_row, run_rows};
@@ -10,7 +10,7 @@ const UNGREETED: Row = Row {
     ..NOTHING
 };
 
-/// INIT 8.0 is told the highest version, 7.40 agrees on 7.31 with its four flags, and a third INIT is EIO.
+/// INIT 8.0 is answered with the highest version, 7.40 agrees on 7.31 with its four flags, and a third INIT is EIO.
 const INITS: Row = Row {
     says: "three times INIT",
     lines: &[

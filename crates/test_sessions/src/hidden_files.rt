@@ -1,4 +1,5 @@
-//! Files that are removed while they are open: hidden, used by their handles, and gone at the end of the session if not before.
+//! Files that are removed while they are open: hidden, used through their handles, and gone at the end of the session
+//! if not before.
 
 use crate::requests::CREATE_A;
 use crate::stories::Says::{Attributes, Bytes, Created, Done, Entry, Failed, Opened, Wrote};
@@ -11,7 +12,7 @@ use std::marker::Brand;
 use std::test::Fail;
 use wire::Operation::{GetAttr, Lookup, Open, Read, Release, RemoveDir, Unlink, Write};
 
-/// The first two names that the file of node 2 may be hidden under, and the eleventh.
+/// The first two candidates for the file of node 2, and the eleventh name.
 const FIRST: &str = ".fuse_hidden0000000200000000";
 
 const SECOND: &str = ".fuse_hidden0000000200000001";
@@ -143,7 +144,7 @@ const HIDDEN: &[Story] = &[
             (1, Lookup { name: "a" }),
             (1, Unlink { name: "a" }),
         ],
-        // the removal at the end, so that the file is seen where it was hidden
+        // the removal at the end, so that the file can be seen under its hidden name
         faults: &[(16, Before(EIO))],
         replies: &[
             Entry(2, File(3)),

@@ -5,7 +5,7 @@ use crate::frames::{ENTRY_A, LOOKUP_A};
 use crate::row::{NOTHING, Row, run_rows};
 use std::test::Fail;
 
-/// The first handle, of OPEN_A.
+/// The first handle, from OPEN_A.
 const OPENED: &str = "20000000 00000000 0800000000000000 0100000000000000 00000000 00000000";
 
 /// OPEN of node 2 for reading, unique 9; and the second handle.

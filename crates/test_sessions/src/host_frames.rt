@@ -1,4 +1,5 @@
-//! Attributes of a tree in memory, byte for byte: its inodes have no numbers, so 0 is told. Nothing that is set of it stays but a size.
+//! Attributes of a tree in memory, byte for byte: its files have no inode numbers, so 0 is reported. Of what is set,
+//! only a size is kept.
 
 use crate::frames::LOOKUP_A;
 use crate::sampled::{Lines, tell_lines};
@@ -23,14 +24,15 @@ const GETATTR_A: &str =
     "38000000 03000000 0900000000000000 0200000000000000 00000000 00000000 00000000 00000000 \
     00000000 00000000 0000000000000000";
 
-/// SETATTR of node 2, unique 10, of all but a handle: to 600 bytes, whose times are 5 and 7 seconds, mode 0o100640, user 1000 and group 100.
+/// SETATTR of node 2, unique 10, of everything except a handle: 600 bytes, times of 5 and 7 seconds, mode 0o100640,
+/// user 1000 and group 100.
 const SETATTR_ALL: &str =
     "80000000 04000000 0a00000000000000 0200000000000000 00000000 00000000 00000000 00000000 \
     bf070000 00000000 0000000000000000 5802000000000000 0000000000000000 \
     0500000000000000 0700000000000000 0000000000000000 06000000 08000000 00000000 \
     a0810000 00000000 e8030000 64000000 00000000";
 
-/// The same with bit 11 alone, unique 11: to 700 bytes.
+/// The same with only bit 11, unique 11: 700 bytes.
 const SETATTR_UNKNOWN: &str =
     "80000000 04000000 0b00000000000000 0200000000000000 00000000 00000000 00000000 00000000 \
     00080000 00000000 0000000000000000 bc02000000000000 0000000000000000 \
@@ -46,7 +48,7 @@ const CREATE_N: &str =
     "3a000000 23000000 0d00000000000000 0100000000000000 00000000 00000000 00000000 00000000 \
     02000000 80810000 00000000 00000000 6e00";
 
-/// What is told of it, and what is set.
+/// What is reported about it, and what is set.
 const OF_THE_HOST: Lines = Lines {
     settings: Settings::Host,
     lines: &[
@@ -87,7 +89,7 @@ const OF_THE_HOST: Lines = Lines {
     ],
 };
 
-/// What GETATTR_A is answered.
+/// The answer to GETATTR_A.
 const A_TOLD: &str = "78000000 00000000 0900000000000000 0100000000000000 00000000 00000000 \
     0000000000000000 0300000000000000 0100000000000000 \
     0000000000000000 0000000000000000 0000000000000000 00000000 00000000 00000000 \

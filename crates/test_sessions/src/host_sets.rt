@@ -1,4 +1,4 @@
-//! SETATTR of attributes of the host: a tree in memory takes what is set, and keeps a size alone.
+//! SETATTR of attributes of the host: a tree in memory accepts what is set, and keeps only a size.
 
 ghost use Rattle.std.specs.Prelude.{◌≡◌};
 
@@ -31,12 +31,12 @@ const NEW: NewAttributes = NewAttributes {
     },
 };
 
-/// A SETATTR of the file `a`, which has three bytes and is open for reading and writing under handle 1, and for reading alone under
-/// handle 2: what it sets, its `valid`, its handle and its size, and what it is answered.
+/// A SETATTR of the file `a`, which has three bytes and is open for reading and writing under handle 1, and only for
+/// reading under handle 2: what it sets, its `valid`, its handle and its size, and the reply.
 #[derive(Clone, Copy)]
 struct Set(&'static str, u32, u64, u64, Result<u64, i32>);
 
-/// Each in a session of its own. Where it is answered well the size is told.
+/// Each in a session of its own. If it succeeds, the size is in the reply.
 const SETS: &[Set] = &[
     Set("nothing", 0, 0, 9, Ok(3)),
     Set("permission bits", 1, 0, 9, Ok(3)),
@@ -108,7 +108,7 @@ fn set_of(valid: u32, fh: u64, size: u64) -> Operation<'static> {
     }
 }
 
-/// Tells a SETATTR in a session of its own, and that nothing else is changed.
+/// Runs a SETATTR in a session of its own, and checks that nothing else is changed.
 fn tell_set<H: Wait + RandomSource, T: Ledgers>(
     rt: &H,
     alloc: Global,
@@ -153,8 +153,8 @@ fn set_alone_and_at_once(rt: HostRuntime) -> Result<(), Fail> {
     Ok(())
 }
 
-/// Where a SETATTR of all but a handle fails that comes after a LOOKUP and sets a size of 600 bytes: the number of the call, counted from
-/// 1, and its fault. And the size in the end.
+/// At which call a SETATTR of everything except a handle fails, which comes after a LOOKUP and sets a size of 600
+/// bytes: the number of the call, counted from 1, and its fault. And the size at the end.
 #[derive(Clone, Copy)]
 struct Fails(&'static str, u64, Fault, u64);
 
@@ -171,7 +171,8 @@ const FAILS: &[Fails] = &[
     Fails("after the look", 6, After(EIO), 600),
 ];
 
-/// Tells that SETATTR. Nothing more is asked for it: the next call is that of the LOOKUP after it, and fails otherwise.
+/// Runs that SETATTR. No more calls are made for it: the next call is that of the LOOKUP after it, which would fail
+/// otherwise.
 fn tell_fails<H: Wait + RandomSource, T: Ledgers>(
     rt: &H,
     alloc: Global,

@@ -1,4 +1,4 @@
-//! Attributes of the host, as a tree in memory has them.
+//! Attributes of the host, from a tree in memory.
 
 use crate::stories::Says::{Attributes, Created, Entries, Entry, Opened};
 use crate::stories::Stands::{File, Folder};
@@ -9,13 +9,13 @@ use std::marker::Brand;
 use std::test::Fail;
 use wire::Operation::{Create, GetAttr, Lookup, MakeDir, OpenDir, ReadDirPlus};
 
-/// Attributes are the host's, and nothing is asked.
+/// Attributes are the host's, and there are no requests.
 pub const HOST: Story = Story {
     settings: Settings::Host,
     ..NOTHING
 };
 
-/// Told, and made with a mode.
+/// Reporting attributes, and creating with a mode.
 const TOLD: &[Story] = &[
     Story {
         says: "attributes of the root, a file and a folder",

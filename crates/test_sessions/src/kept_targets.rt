@@ -10,7 +10,7 @@ use std::marker::Brand;
 use std::test::Fail;
 use wire::Operation::{GetAttr, Lookup, Open, Read, RemoveDir, Rename2};
 
-/// Names that are moved, and names that are in the way.
+/// Names that are moved, and targets that exist already.
 const KEPT: &[Story] = &[
     Story {
         says: "what stands there is not replaced, and an open file not hidden",

@@ -11,13 +11,13 @@ use std::marker::Brand;
 use std::test::Fail;
 use wire::Operation::{self, Lookup, Open, Read, Release, RemoveDir, Unlink};
 
-/// The first name that the file of node 2 may be hidden under.
+/// The first candidate for the file of node 2.
 const FIRST: &str = ".fuse_hidden0000000200000000";
 
-/// The first that the file of node 3 may be hidden under once ten names were taken.
+/// The first candidate for the file of node 3 after ten names were used up.
 const OF_THREE: &str = ".fuse_hidden000000030000000a";
 
-/// `a` is found, opened, removed, read by either of two handles, and closed.
+/// `a` is looked up, opened, removed, read through either of two handles, and closed.
 const FOUND: (u64, Operation<'static>) = (1, Lookup { name: "a" });
 
 const OPENED: (u64, Operation<'static>) = (2, Open { flags: 0 });
@@ -46,7 +46,7 @@ const CLOSED_ONE: (u64, Operation<'static>) = (2, Release { fh: 1 });
 
 const CLOSED_TWO: (u64, Operation<'static>) = (2, Release { fh: 2 });
 
-/// It is opened once, removed and closed: five calls, of which the last removes it.
+/// It is opened once, removed and closed: five calls, the last of which removes it.
 const ONCE: &[(u64, Operation)] = &[FOUND, OPENED, REMOVED, CLOSED_ONE];
 
 /// Hidden files that are closed.
@@ -56,7 +56,7 @@ const STORIES: &[Story] = &[
         asks: &[
             FOUND, OPENED, OPENED, REMOVED, READ_ONE, CLOSED_ONE, READ_TWO, CLOSED_TWO,
         ],
-        // the removal by the last RELEASE, and then that at the end
+        // the removal by the last RELEASE, and then the one at the end
         faults: &[(8, Before(EIO)), (9, Before(EIO))],
         replies: &[
             Entry(2, File(3)),

@@ -1,4 +1,4 @@
-//! Tests across the crates: whole sessions, with every byte taken from the protocol's description.
+//! Tests across the crates: whole sessions, with all bytes taken from the description of the protocol.
 #![tactic(auto)]
 
 #[cfg(test)]

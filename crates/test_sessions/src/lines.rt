@@ -14,7 +14,8 @@ fn empty_input(rt: HostRuntime) -> Result<(), Fail> {
     run_row(&rt, rt.alloc(), &row)
 }
 
-/// Lengths below and above those of a frame, and lengths that may be: then the input ends before the frame does.
+/// Lengths below and above those of a frame, and lengths that a frame may have: then the input ends before the frame
+/// does.
 const LENGTHS: &[Row] = &[
     Row {
         says: "length 39",
@@ -81,7 +82,7 @@ fn bad_length_between_frames(rt: HostRuntime) -> Result<(), Fail> {
     run_row(&rt, rt.alloc(), &BETWEEN_FRAMES)
 }
 
-/// Where a bad length and a bad line both wait, the length is met first.
+/// If a bad length and a bad line both come next, the length is met first.
 const BEFORE_A_BAD_LINE: Row = Row {
     says: "a bad length before a bad line",
     lines: &["27000000", "no digits"],
@@ -95,7 +96,7 @@ fn bad_length_before_a_bad_line(rt: HostRuntime) -> Result<(), Fail> {
     run_row(&rt, rt.alloc(), &BEFORE_A_BAD_LINE)
 }
 
-/// The line of a frame, with a line break after so many of its bytes.
+/// The line of a frame, with a line break after that many of its bytes.
 fn cut_after(alloc: Global, line: &[u8], bytes: usize) -> Result<Vec<u8>, AllocError> {
     let mut input = Vec::new(alloc);
     for (place, digit) in line.iter().enumerate() {
@@ -173,7 +174,7 @@ const BAD_LINE: Row = Row {
     ..NOTHING
 };
 
-/// An odd number of digits, a carriage return, a space, a prefix, bytes that are no text, and other letters.
+/// An odd number of digits, a carriage return, a space, a prefix, bytes that are not UTF-8, and other letters.
 const BAD_LINES: &[Row] = &[
     Row {
         says: "an odd number of digits",

@@ -1,4 +1,4 @@
-//! Open folders: what a client reads of them, and handles that are none.
+//! Open folders: what a client reads from them, and handles that do not exist.
 
 use crate::requests::MAKE_M;
 use crate::stories::Says::{Done, Entry, Failed, Names, Opened};
@@ -11,7 +11,7 @@ use std::marker::Brand;
 use std::test::Fail;
 use wire::Operation::{Lookup, OpenDir, ReadDir, ReleaseDir, RemoveDir, SyncDir};
 
-/// What a client reads of an open folder.
+/// What a client reads from an open folder.
 const PAGES: &[Story] = &[
     Story {
         says: "the root, whole and in pages that just fit, and one that does not",
@@ -145,7 +145,7 @@ fn pages_of_names(rt: HostRuntime) -> Result<(), Fail> {
     Ok(())
 }
 
-/// Handles that are none, and folders that are not opened.
+/// Handles that do not exist, and folders that are not opened.
 const HANDLES: &[Story] = &[
     Story {
         says: "a handle of another node, one that was not given, and one that was given up",

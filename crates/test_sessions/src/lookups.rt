@@ -1,4 +1,4 @@
-//! LOOKUP and FORGET from bytes to bytes. Each run ends well.
+//! LOOKUP and FORGET from bytes to bytes. Each run ends with status 0.
 
 use crate::frames::{
     ABSENT, ENTRY_A, ENTRY_D, ENTRY_E_REBORN, FORGET_FIVE, LOOKUP_A, LOOKUP_D, LOOKUP_E, LOOKUP_ZZ,
@@ -47,7 +47,7 @@ fn lookup_then_forget(rt: HostRuntime) -> Result<(), Fail> {
     expect(&rt, rt.alloc(), &lines, &[ENTRY_A, ABSENT])
 }
 
-/// A FORGET of more than the count takes the count: the node is gone, and its number is born again.
+/// A FORGET of more than the count takes the whole count: the node is dropped, and its number is born again.
 #[test]
 fn forget_above_count(rt: HostRuntime) -> Result<(), Fail> {
     let lines = [LOOKUP_A, LOOKUP_A, FORGET_FIVE, LOOKUP_E];
@@ -91,7 +91,8 @@ fn lawless_names(rt: HostRuntime) -> Result<(), Fail> {
     expect(&rt, rt.alloc(), &lines, &[invalid, invalid])
 }
 
-/// A LOOKUP in the root, unique 7, of a name of so many bytes. Its frame has 41 bytes more, and begins with its length.
+/// A LOOKUP in the root, unique 7, of a name with that many bytes. Its frame is 41 bytes longer, and begins with its
+/// length.
 fn long_lookup(alloc: Global, len: &[u8], bytes: usize) -> Result<Vec<u8>, AllocError> {
     let mut line = Vec::new(alloc);
     line.extend_from_slice(len)?;
@@ -107,7 +108,7 @@ fn long_lookup(alloc: Global, len: &[u8], bytes: usize) -> Result<Vec<u8>, Alloc
 const AFTER_LENGTH: &[u8] =
     b"010000000700000000000000010000000000000000000000000000000000000000000000";
 
-/// A name may have 255 bytes, and this one is absent.
+/// A name may have 255 bytes, and this one does not exist.
 #[test]
 fn longest_name(rt: HostRuntime) -> Result<(), Fail> {
     let line = long_lookup(rt.alloc(), b"28010000", 255)?;
@@ -124,7 +125,7 @@ fn too_long_name(rt: HostRuntime) -> Result<(), Fail> {
     run_bytes(&rt, rt.alloc(), line.as_slice(), &[TOO_LONG])
 }
 
-/// LOOKUP `.fuse_hiddenx` in the root, and in a folder that is not known: ENOENT before anything else is looked at.
+/// LOOKUP `.fuse_hiddenx` in the root, and in an unknown folder: ENOENT before anything else is looked at.
 #[test]
 fn reserved_name(rt: HostRuntime) -> Result<(), Fail> {
     let lines = [
@@ -134,7 +135,7 @@ fn reserved_name(rt: HostRuntime) -> Result<(), Fail> {
     expect(&rt, rt.alloc(), &lines, &[ABSENT, ABSENT])
 }
 
-/// LOOKUP `a` in node 9, which is not known: ESTALE.
+/// LOOKUP `a` in node 9, which is unknown: ESTALE.
 #[test]
 fn unknown_parent(rt: HostRuntime) -> Result<(), Fail> {
     let lines = [

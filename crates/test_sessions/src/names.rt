@@ -1,4 +1,4 @@
-//! Names and attributes from bytes to bytes: frames and replies as the protocol writes them.
+//! Names and attributes from bytes to bytes: frames and replies as in the protocol.
 
 use crate::row::{NOTHING, Row, run_row, run_rows};
 use std::test::Fail;

@@ -1,4 +1,4 @@
-//! Files that are opened and made, and how many may be open.
+//! Files that are opened and created, and how many may be open.
 
 use crate::requests::CREATE_N;
 use crate::stories::Says::{Attributes, Bytes, Created, Entry, Failed, Opened};
@@ -11,7 +11,7 @@ use std::marker::Brand;
 use std::test::Fail;
 use wire::Operation::{Create, GetAttr, Lookup, Open, Read};
 
-/// Files that are made or opened, and those that may not be.
+/// Files that are created or opened, and those that may not be.
 const OPENED: &[Story] = &[
     Story {
         says: "a file is opened twice, and one is made",

@@ -29,8 +29,8 @@ const RELEASE_OTHER: &str =
     "40000000 1d000000 0400000000000000 0900000000000000 00000000 00000000 00000000 00000000 \
     0100000000000000 00000000 00000000 0000000000000000";
 
-/// What a client sends after INIT, the reply that it does not take, counted from 1 or 0, whether its link breaks there, and how many folders
-/// are open in the end.
+/// What a client sends after INIT, the reply that it does not take, counted from 1, or 0, whether its link breaks
+/// there, and how many folders are open at the end.
 struct Row {
     lines: &'static [&'static str],
     declined: u32,
@@ -63,7 +63,7 @@ const ROWS: &[Row] = &[
         breaks: false,
         open: 0,
     },
-    // A reply that is not taken gives nothing back.
+    // A RELEASEDIR whose reply is not taken has closed the folder all the same.
     Row {
         lines: &[OPEN, RELEASE, RELEASE],
         declined: 3,
@@ -78,7 +78,7 @@ const ROWS: &[Row] = &[
     },
 ];
 
-/// How many folders are open in the end.
+/// How many folders are open at the end.
 fn open_after<H: Wait + RandomSource, T: Ledgers>(
     rt: &H,
     alloc: Global,

@@ -1,4 +1,4 @@
-//! What passes over a link, in its order.
+//! The traffic of a link, in order.
 
 use crate::client::Client;
 use crate::frames::{INIT, LOOKUP_A};
@@ -7,7 +7,8 @@ use ledger::Blanks;
 use std::marker::Brand;
 use std::test::Fail;
 
-/// Two requests and the beginning of a third are heard at once: the two are answered before the rest of the third is heard.
+/// Two requests and the beginning of a third are received at once: the two are answered before the rest of the third is
+/// received.
 const RECORD: &[&str] = &[
     "[INFO  link] 118 bytes are heard",
     "[INFO  link] 80 bytes are offered",

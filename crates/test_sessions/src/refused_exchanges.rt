@@ -9,7 +9,7 @@ use std::marker::Brand;
 use std::test::Fail;
 use wire::Operation::{GetAttr, Lookup, Rename2};
 
-/// Names that do not change places.
+/// Names that are not exchanged.
 const REFUSED: &[Story] = &[
     Story {
         says: "a name above or below, absent names and unknown folders",

@@ -1,4 +1,4 @@
-//! Scripts that rename, with their errors.
+//! Requests that rename, with their errors.
 
 use crate::requests::{MAKE_C, MAKE_X};
 use crate::stories::Says::{Attributes, Done, Entry, Failed};
@@ -219,7 +219,7 @@ fn renames(rt: HostRuntime) -> Result<(), Fail> {
     Ok(())
 }
 
-/// A folder is not moved below itself, nor a name onto one above it; onto itself nothing changes.
+/// A folder cannot be moved below itself, nor a name onto one above it; moving it onto itself changes nothing.
 const MOVES_ONTO_OWN_FRONTS: &[Story] = &[
     Story {
         says: "a folder is moved below itself",

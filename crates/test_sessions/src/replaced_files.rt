@@ -1,4 +1,4 @@
-//! Files that another is moved onto while they are open: hidden, and used by their handles.
+//! Files to whose names others are moved while they are open: they are hidden, and used through their handles.
 
 use crate::requests::CREATE_X;
 use crate::stories::Says::{Attributes, Bytes, Created, Done, Entry, Failed, Opened, Wrote};
@@ -11,13 +11,13 @@ use std::marker::Brand;
 use std::test::Fail;
 use wire::Operation::{self, GetAttr, Lookup, Open, Read, Release, Rename, Unlink, Write};
 
-/// The first name that the file of node 2 may be hidden under.
+/// The first candidate for the file of node 2.
 const FIRST: &str = ".fuse_hidden0000000200000000";
 
-/// The first that the file of node 3 may be hidden under.
+/// The first candidate for the file of node 3.
 const OF_THREE: &str = ".fuse_hidden0000000300000000";
 
-/// `a` is found and opened, in two calls.
+/// `a` is looked up and opened, with two calls.
 const FOUND: (u64, Operation<'static>) = (1, Lookup { name: "a" });
 
 const OPENED: (u64, Operation<'static>) = (2, Open { flags: 0 });
@@ -32,7 +32,7 @@ const MOVED: (u64, Operation<'static>) = (
     },
 );
 
-/// It is read by its handle.
+/// It is read through its handle.
 const READ: (u64, Operation<'static>) = (
     2,
     Read {
@@ -42,7 +42,7 @@ const READ: (u64, Operation<'static>) = (
     },
 );
 
-/// The move onto an open file, and how it fails.
+/// A move onto an open file, and how it fails.
 const HIDDEN_THEN_RENAME_FAILS: &[Story] = &[
     Story {
         says: "the file is hidden, and then the move fails",
@@ -171,7 +171,7 @@ fn hidden_then_rename_fails(rt: HostRuntime) -> Result<(), Fail> {
     Ok(())
 }
 
-/// What the handle of a file leads to that was moved, or that another was moved onto.
+/// Where the handle of a file leads that was moved, or onto which another was moved.
 const REPLACED: &[Story] = &[
     Story {
         says: "an open file that is moved onto itself stays as it is",

@@ -1,9 +1,9 @@
-//! Requests of stories that bear numbers which `fixed` attributes do not look at: all of these are 0.
+//! Requests for stories. They have numbers that do not matter with fixed attributes: all of these are 0.
 
 use wire::Operation::{self, Create, MakeDir};
 use wire::{NewAttributes, Time};
 
-/// What a SETATTR does not set.
+/// The values that a SETATTR does not set.
 pub const NOTHING_NEW: NewAttributes = NewAttributes {
     mode: 0,
     uid: 0,

@@ -1,4 +1,4 @@
-//! Runs of the program `hex` as rows: what it reads, and what it must write and end with.
+//! Runs of the program `hex` as rows: its input, and its expected output and end.
 
 use crate::frames::{AGREED, INIT, lines_of, run_on};
 use std::alloc::Global;
@@ -9,23 +9,23 @@ use std::test::Fail;
 /// A run with the sample names.
 #[derive(Clone, Copy)]
 pub struct Row<'a> {
-    /// Names the row where it comes otherwise.
+    /// Names the row if it fails.
     pub says: &'a str,
     /// Whether INIT is the first line, and its reply the first.
     pub greets: bool,
-    /// The further lines of the input, of which spaces are left out.
+    /// The further lines of the input. Their spaces are left out.
     pub lines: &'a [&'a str],
-    /// What follows them in the input, as it is.
+    /// What follows them in the input, unchanged.
     pub tail: &'a [u8],
     /// The exit status.
     pub status: u8,
-    /// The further lines of the output, of which spaces are left out.
+    /// The further lines of the output. Their spaces are left out.
     pub replies: &'a [&'a str],
     /// What is written on standard error.
     pub fault: &'a str,
 }
 
-/// Nothing but INIT is read, nothing but its reply is written, and all is well.
+/// Only INIT is read, only its reply is written, and the status is 0.
 pub const NOTHING: Row = Row {
     says: "nothing",
     greets: true,
@@ -36,7 +36,7 @@ pub const NOTHING: Row = Row {
     fault: "",
 };
 
-/// The row came otherwise: its status, and whether its output and its standard error were as it says.
+/// The row failed: its status, and whether its output and its standard error were as it says.
 #[derive(Debug, Drop)]
 pub struct Otherwise<'a> {
     pub says: &'a str,
@@ -72,7 +72,7 @@ pub fn run_row(rt: &(impl Wait + RandomSource), alloc: Global, row: &Row) -> Res
     .into())
 }
 
-/// Runs the program on these bytes. It writes the replies, and ends well.
+/// Runs the program on these bytes, and checks that it writes the replies and ends with status 0.
 pub fn run_bytes<'a>(
     rt: &(impl Wait + RandomSource),
     alloc: Global,
@@ -88,7 +88,7 @@ pub fn run_bytes<'a>(
     run_row(rt, alloc, &row)
 }
 
-/// Runs the program on each row. Fails at the first that comes otherwise.
+/// Runs the program on each row. Fails at the first one that fails.
 pub fn run_rows(rt: &(impl Wait + RandomSource), alloc: Global, rows: &[Row]) -> Result<(), Fail> {
     for row in rows {
         run_row(rt, alloc, row)?;

@@ -10,7 +10,7 @@ use std::io::{ErrorKind, Write};
 use std::test::Fail;
 use table::Seeds;
 
-// A LOOKUP of `a` finds it where the sample names were asked for.
+// A LOOKUP of `a` finds it if the sample names were asked for.
 #[test]
 fn sample_names_or_none(rt: HostRuntime) -> Result<(), Fail> {
     let alloc = rt.alloc();
@@ -30,8 +30,8 @@ fn sample_names_or_none(rt: HostRuntime) -> Result<(), Fail> {
 
 /// With room for six postings: requests, and their replies.
 const WITH_SIX: [(&[&str], &[&str]); 2] = [
-    // A period ends before the third LOOKUP. The fourth has no room for its postings. Once all is forgotten another one ends, and number 2 is
-    // born again with the next generation.
+    // A period ends before the third LOOKUP. The fourth has no room for its postings. After everything is forgotten
+    // another period ends, and number 2 is born again with the next generation.
     (
         &[
             INIT,
@@ -160,7 +160,7 @@ fn broken_output(rt: HostRuntime) -> Result<(), Fail> {
     Ok(())
 }
 
-// Where standard error takes no line, the status stays.
+// If nothing can be written to standard error, the status does not change.
 #[test]
 fn broken_standard_error(rt: HostRuntime) -> Result<(), Fail> {
     let alloc = rt.alloc();

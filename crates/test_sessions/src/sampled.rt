@@ -1,4 +1,4 @@
-//! Sessions over the sample names, with frames and replies in hexadecimal digits.
+//! Sessions with the sample names, with frames and replies in hexadecimal digits.
 
 ghost use Rattle.std.specs.Prelude.{◌≡◌};
 
@@ -16,7 +16,7 @@ use std::sync::Wait;
 use std::test::Fail;
 use table::Limits;
 
-// Serves the sample names by these settings. The first call of their tree fails, if a fault is planned.
+// Serves the sample names with these settings. The first call of their tree fails, if a fault is planned.
 pub fn serve_samples_by<H: Wait + RandomSource, T: Ledgers>(
     rt: &H,
     alloc: Global,
@@ -41,7 +41,7 @@ pub fn serve_samples_by<H: Wait + RandomSource, T: Ledgers>(
     serve_client::<H, T, &Dirs>(rt, alloc, blanks, settings, limits, &mut served, client)
 }
 
-// The same with attributes that are fixed.
+// The same with fixed attributes.
 pub fn serve_samples<H: Wait + RandomSource, T: Ledgers>(
     rt: &H,
     alloc: Global,
@@ -90,7 +90,7 @@ pub fn are_taken(alloc: Global, taken: &[u8], replies: &[&str]) -> Result<bool, 
     Ok(taken == bytes.as_slice())
 }
 
-/// What a client sends after INIT, and what it is answered, in hexadecimal digits.
+/// What a client sends after INIT, and the replies, in hexadecimal digits.
 #[derive(Clone, Copy)]
 pub struct Lines {
     pub settings: Settings,
@@ -98,7 +98,7 @@ pub struct Lines {
     pub replies: &'static [&'static str],
 }
 
-// A client that sends these lines over the sample names is answered so.
+// Checks that a client that sends these lines gets these replies, with the sample names.
 pub fn tell_lines<H: Wait + RandomSource, T: Ledgers>(
     rt: &H,
     alloc: Global,

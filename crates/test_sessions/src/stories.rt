@@ -1,4 +1,5 @@
-//! Sessions as data: what a client asks, which calls of the tree fail, what it is answered, and what stands in the end.
+//! Sessions as data: what a client asks, which calls of the tree fail, what the replies are, and what there is at the
+//! end.
 
 ghost use Rattle.std.specs.Prelude.{◌≡◌};
 
@@ -19,38 +20,38 @@ use table::Limits;
 use test_support::PlainFolders;
 use wire::{Operation, Request, encode_request};
 
-/// A session over the sample names.
+/// A session with the sample names.
 #[derive(Clone, Copy)]
 pub struct Story<'a> {
     pub says: &'a str,
-    /// Whose attributes are told.
+    /// Whose attributes are reported.
     pub settings: Settings,
-    /// How many nodes may live, the root among them.
+    /// How many nodes there may be, including the root.
     pub nodes: u64,
     /// How many files may be open.
     pub open_files: u64,
-    /// Empty files that stand in the tree beside the samples.
+    /// Empty files in the tree in addition to the samples.
     pub files: &'a [&'a [&'a str]],
-    /// What is asked of which node, one after another. The requests are numbered from 1.
+    /// The requests and their nodes, in order. The requests are numbered from 1.
     pub asks: &'a [(u64, Operation<'a>)],
     /// Calls of the tree that fail, counted from 1.
     pub faults: &'a [(u64, PlannedFault)],
-    /// What each request is answered.
+    /// The reply to each request.
     pub replies: &'a [Says<'a>],
-    /// Paths, and what stands there in the end.
+    /// Paths, and what is there at the end.
     pub after: &'a [(&'a [&'a str], Stands)],
 }
 
-/// What stands at a path.
+/// What is at a path.
 #[derive(Clone, Copy, Debug, PartialEq, Eq)]
 pub enum Stands {
     Folder,
-    /// A file of so many bytes.
+    /// A file of that many bytes.
     File(u64),
     Nothing,
 }
 
-/// Nothing is asked, and nothing fails.
+/// No requests, and no failures.
 pub const NOTHING: Story = Story {
     says: "nothing",
     settings: FIXED,
@@ -63,7 +64,7 @@ pub const NOTHING: Story = Story {
     after: &[],
 };
 
-/// The story came otherwise: whether its replies were as it says, and at how many of its paths it was so.
+/// The story failed: whether its replies were as it says, and how many of its paths were.
 #[derive(Debug, Drop)]
 struct Otherwise<'a> {
     says: &'a str,
@@ -71,20 +72,20 @@ struct Otherwise<'a> {
     stand: usize,
 }
 
-/// What a request is answered.
+/// The reply to a request.
 #[derive(Clone, Copy)]
 pub enum Says<'a> {
     Failed(i32),
     Done,
-    /// The entry of a node that was born once, and what stands there.
+    /// The entry of a node that was born once, and what it is.
     Entry(u64, Stands),
-    /// A node, and what stands there.
+    /// A node, and what it is.
     Attributes(u64, Stands),
     /// The sizes of the file system.
     Sizes,
     /// The handle of an open file or folder.
     Opened(u64),
-    /// The entry of an empty file that was made and of a node that was born once, and its handle.
+    /// The entry of an empty file that was created and of a node that was born once, and its handle.
     Created(u64, u64),
     /// Bytes of a file.
     Bytes(&'a [u8]),
@@ -181,7 +182,7 @@ fn tree_of(alloc: Global, story: &Story) -> Result<MemTree, Fail> {
     Ok(tree)
 }
 
-/// At how many of the story's paths it is in the end as it says.
+/// At how many of the story's paths there is at the end what it says.
 fn stand_in(alloc: Global, tree: &mut MemTree, story: &Story) -> Result<usize, AllocError> {
     let mut stand = 0usize;
     for (names, stands) in story.after {
@@ -192,7 +193,7 @@ fn stand_in(alloc: Global, tree: &mut MemTree, story: &Story) -> Result<usize, A
     Ok(stand)
 }
 
-/// Tells a story with these open folders. Fails where it comes otherwise.
+/// Runs a story with these open folders. Fails if anything is unexpected.
 fn tell_on<H: Wait + RandomSource, T: Ledgers, D: Folders + Drop>(
     rt: &H,
     alloc: Global,
@@ -231,7 +232,7 @@ fn tell_on<H: Wait + RandomSource, T: Ledgers, D: Folders + Drop>(
     Err(fail_of(story, are_replies, stand))
 }
 
-/// Tells a story. Fails where it comes otherwise.
+/// Runs a story. Fails if anything is unexpected.
 pub fn tell<H: Wait + RandomSource, T: Ledgers>(
     rt: &H,
     alloc: Global,
@@ -245,7 +246,7 @@ pub fn tell<H: Wait + RandomSource, T: Ledgers>(
     tell_on::<H, T, &Dirs>(rt, alloc, blanks, &dirs, story)
 }
 
-/// Tells a story whose open folders are a plain map. Fails where it comes otherwise.
+/// Runs a story whose open folders are a plain map. Fails if anything is unexpected.
 pub fn tell_plainly<H: Wait + RandomSource, T: Ledgers>(
     rt: &H,
     alloc: Global,

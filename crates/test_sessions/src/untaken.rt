@@ -1,4 +1,5 @@
-//! Clients that do not take a reply, or begin too early, directories that answer strangely, and what is left of the input at the end.
+//! Clients that do not take a reply or begin too early, directories that give strange answers, and what is left of the
+//! input at the end.
 
 use crate::file_frames::{CREATE_N, FLUSH, FLUSH_REFUSED, OPEN_A};
 use crate::frames::{
@@ -16,7 +17,7 @@ use std::test::Fail;
 const LOOKUP_N: &str =
     "2a000000 01000000 0800000000000000 0100000000000000 00000000 00000000 00000000 00000000 6e00";
 
-// The entry of `a` comes back, so its node is gone; the session goes on, and its number is born again for `e`.
+// The entry of `a` is given back, so its node is dropped; the session goes on, and its number is born again for `e`.
 #[test]
 fn untaken_lookup(rt: HostRuntime) -> Result<(), Fail> {
     let alloc = rt.alloc();
@@ -34,7 +35,7 @@ fn untaken_lookup(rt: HostRuntime) -> Result<(), Fail> {
     Ok(())
 }
 
-// The listing of an OPENDIR whose reply is not taken is given up, so its handle is none.
+// The handle of an OPENDIR whose reply is not taken is closed, so it does not exist.
 #[test]
 fn untaken_opendir(rt: HostRuntime) -> Result<(), Fail> {
     let alloc = rt.alloc();
@@ -53,7 +54,7 @@ fn untaken_opendir(rt: HostRuntime) -> Result<(), Fail> {
     Ok(())
 }
 
-// The handle of a file whose reply is not taken is closed, and its entry given back. The file stays.
+// The handle of a file whose reply is not taken is closed, and its entry given back. The file remains.
 #[test]
 fn untaken_create(rt: HostRuntime) -> Result<(), Fail> {
     let alloc = rt.alloc();
@@ -71,7 +72,7 @@ fn untaken_create(rt: HostRuntime) -> Result<(), Fail> {
     Ok(())
 }
 
-// The same of a file that is opened. Its handle is given to no other.
+// The same for a file that is opened. Its handle is not used again.
 #[test]
 fn untaken_open(rt: HostRuntime) -> Result<(), Fail> {
     let alloc = rt.alloc();
@@ -84,7 +85,7 @@ fn untaken_open(rt: HostRuntime) -> Result<(), Fail> {
     Ok(())
 }
 
-// The entries of a READDIRPLUS whose reply is not taken come back, each once, and their nodes are gone.
+// The entries of a READDIRPLUS whose reply is not taken are given back, each once, and their nodes are dropped.
 #[test]
 fn untaken_entries(rt: HostRuntime) -> Result<(), Fail> {
     let alloc = rt.alloc();
@@ -102,13 +103,13 @@ fn untaken_entries(rt: HostRuntime) -> Result<(), Fail> {
         forgotten: 0,
     };
     assert_eq!(rt; over.end, SessionEnd::Closed { rest: 0 });
-    // The replies to INIT, OPENDIR and LOOKUP. Which number the next entry bears is the table's to choose.
+    // The replies to INIT, OPENDIR and LOOKUP. The table is free to choose the number of the next entry.
     assert_eq!(rt; client.taken.len(), 80 + 32 + 144);
     assert_eq!(rt; over.totals, totals);
     Ok(())
 }
 
-// The directory names no error number, so the reply is EIO.
+// The directory's fault has no valid error number, so the reply is EIO.
 #[test]
 fn strange_errors(rt: HostRuntime) -> Result<(), Fail> {
     let alloc = rt.alloc();
@@ -133,7 +134,7 @@ fn strange_errors(rt: HostRuntime) -> Result<(), Fail> {
 const TRUNCATED: &str =
     "2a000000 01000000 0700000000000000 0100000000000000 00000000 00000000 00000000 00000000 61";
 
-// What is no whole frame at the end of the input is told, and nothing is replied to it.
+// What is left at the end of the input and is not a whole frame is reported, and gets no reply.
 #[test]
 fn rest_of_the_input(rt: HostRuntime) -> Result<(), Fail> {
     let alloc = rt.alloc();
@@ -153,7 +154,7 @@ fn rest_of_the_input(rt: HostRuntime) -> Result<(), Fail> {
     Ok(())
 }
 
-// An INIT whose reply is not taken has agreed on a version all the same.
+// An INIT whose reply is not taken has still agreed on a version.
 #[test]
 fn untaken_init(rt: HostRuntime) -> Result<(), Fail> {
     let alloc = rt.alloc();
@@ -196,7 +197,7 @@ fn destroyed_session(rt: HostRuntime) -> Result<(), Fail> {
     Ok(())
 }
 
-// A link that breaks at the reply to a DESTROY is what ends the session.
+// If the link breaks at the reply to a DESTROY, that is what ends the session.
 #[test]
 fn broken_last_reply(rt: HostRuntime) -> Result<(), Fail> {
     let alloc = rt.alloc();
@@ -207,7 +208,7 @@ fn broken_last_reply(rt: HostRuntime) -> Result<(), Fail> {
     Ok(())
 }
 
-// Nothing is served after the link broke, and the entry whose reply was lost comes back.
+// Nothing is served after the link broke, and the entry whose reply was lost is given back.
 #[test]
 fn broken_lookup(rt: HostRuntime) -> Result<(), Fail> {
     let alloc = rt.alloc();

@@ -7,7 +7,7 @@ use mirrord_server::{Bounds, Terms};
 use std::test::Fail;
 use table::Counts;
 
-/// How far a table may grow if nothing else is said.
+/// How far a table may grow by default.
 const DEFAULT: Bounds = Bounds {
     nodes: 65_536,
     files: 4_096,
@@ -116,7 +116,7 @@ fn serve_and_pipe(rt: HostRuntime) -> Result<(), Fail> {
     Ok(())
 }
 
-// Help and the version end well, and go to standard output.
+// Help and the version end with status 0, and are written to standard output.
 #[test]
 fn help_and_version(rt: HostRuntime) {
     for word in ["--help", "-h", "help"] {
@@ -139,7 +139,7 @@ fn help_and_version(rt: HostRuntime) {
     }
 }
 
-// A command line that is not understood ends with status 2, on standard error.
+// A command line that is not understood ends with status 2, and a message on standard error.
 #[test]
 fn bad_command_lines(rt: HostRuntime) {
     let bad: [&[&str]; 18] = [

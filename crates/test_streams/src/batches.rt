@@ -9,7 +9,7 @@ use std::alloc::{AllocError, Global};
 use std::io;
 use std::test::Fail;
 
-/// A reply of so many bytes, each of which is its place. One of 16 is a header.
+/// A reply of that many bytes, each of which is the reply's index. One of 16 bytes is a header.
 fn reply(alloc: Global, place: u8, len: usize) -> Result<ReplyBytes, AllocError> {
     if len == 16 {
         return Ok(ReplyBytes::Header([place; 16]));
@@ -19,7 +19,7 @@ fn reply(alloc: Global, place: u8, len: usize) -> Result<ReplyBytes, AllocError>
     Ok(ReplyBytes::Whole(SmallVec::from_vec(bytes)))
 }
 
-/// Replies of these lengths. The first is of ones.
+/// Replies of these lengths. The bytes of the first are ones.
 fn replies(alloc: Global, lens: &[usize]) -> Result<Vec<ReplyBytes>, AllocError> {
     let mut frames = Vec::new(alloc);
     let mut place = 0u8;
@@ -30,7 +30,7 @@ fn replies(alloc: Global, lens: &[usize]) -> Result<Vec<ReplyBytes>, AllocError>
     Ok(frames)
 }
 
-/// Offers replies of these lengths to that writer, and hands back what became of each.
+/// Offers replies of these lengths to that writer, and returns what became of each.
 fn send(alloc: Global, lens: &[usize], writer: Narrow) -> Result<(Vec<Sent>, Narrow), AllocError> {
     let frames = replies(alloc, lens)?;
     let mut sent = Vec::with_capacity(alloc, frames.len())?;
@@ -42,7 +42,7 @@ fn send(alloc: Global, lens: &[usize], writer: Narrow) -> Result<(Vec<Sent>, Nar
 /// A header, and replies of 20 and of 24 bytes.
 const THREE: &[usize] = &[16, 20, 24];
 
-/// From how many bytes on these replies come to that.
+/// The results of the replies, from that many bytes on.
 const VERDICTS: &[(usize, &[Sent])] = &[
     (0, &[Broken]),
     (16, &[Taken, Broken]),
@@ -50,7 +50,7 @@ const VERDICTS: &[(usize, &[Sent])] = &[
     (60, &[Taken, Taken, Taken]),
 ];
 
-/// What they come to at so many bytes.
+/// Their results for that many bytes.
 fn verdicts_at(left: usize) -> &'static [Sent] {
     let mut verdicts: &'static [Sent] = &[];
     for (from, told) in VERDICTS {
@@ -92,7 +92,7 @@ fn write_fails_after_each_byte(rt: HostRuntime) -> Result<(), Fail> {
     Ok(())
 }
 
-/// All is written and not handed on, so the last is not known to be taken.
+/// Everything is written but the flush fails, so it is not known whether the last one was taken.
 #[test]
 fn flush_fails(rt: HostRuntime) -> Result<(), Fail> {
     let (sent, writer) = send(rt.alloc(), THREE, make_narrow(rt.alloc(), 100, false))?;
@@ -101,7 +101,7 @@ fn flush_fails(rt: HostRuntime) -> Result<(), Fail> {
     Ok(())
 }
 
-/// The lengths of replies, and how many bytes each write brings.
+/// The lengths of replies, and how many bytes each write has.
 const WRITES: &[(&[usize], &[usize])] = &[
     (&[], &[]),
     (&[16], &[16]),

@@ -1,4 +1,4 @@
-//! A link over a device whose reads and writes fail in each way.
+//! A link over a device whose reads and writes fail in every way.
 
 use engine::Received::{Broken, Bytes, End};
 use engine::Sent::{Taken, Untaken};
@@ -11,12 +11,13 @@ use std::test::Fail;
 use test_support::Written::{Errno, Part, Whole};
 use test_support::{Log, ScriptedReplies, ScriptedRequests, Written};
 
-/// The length of the longest frame, and a room that is longer.
+/// The length of the longest frame, and a longer buffer.
 const LONGEST: usize = 69_632;
 
 const ROOM: usize = 131_072;
 
-/// A device that tells these lengths of requests, or error numbers. The bytes of a request are its place, counted from 1.
+/// A device that returns requests of these lengths, or error numbers. The bytes of a request are its position, counted
+/// from 1.
 fn requests(alloc: Global, reads: &[Result<usize, i32>]) -> Result<ScriptedRequests, AllocError> {
     let mut told = Vec::new(alloc);
     let mut place = 0u8;
@@ -34,7 +35,8 @@ fn requests(alloc: Global, reads: &[Result<usize, i32>]) -> Result<ScriptedReque
     Ok(ScriptedRequests::new(told))
 }
 
-/// What reads tell, and what is received in a room that is long enough. EINTR is 4, EAGAIN 11, ENOENT 2, ENODEV 19.
+/// The results of reads, and what is received into a buffer that is long enough. EINTR is 4, EAGAIN 11, ENOENT 2,
+/// ENODEV 19.
 const READS: &[(&[Result<usize, i32>], &[Received])] = &[
     (&[], &[End]),
     (&[Err(19)], &[End]),
@@ -71,7 +73,7 @@ fn reads_are_told_as_what_they_are(rt: HostRuntime) -> Result<(), Fail> {
     Ok(())
 }
 
-/// A request that is longer than the room comes in pieces, and then the next one.
+/// A request that is longer than the buffer comes in pieces, followed by the next one.
 #[test]
 fn short_rooms_lose_nothing(rt: HostRuntime) -> Result<(), Fail> {
     for len in [1usize, 7, 39, 40, 100, LONGEST - 1] {
@@ -107,7 +109,7 @@ fn replies(alloc: Global) -> Result<Vec<engine::ReplyBytes>, AllocError> {
     Ok(frames)
 }
 
-/// What writes tell, what becomes of three replies that are offered together, and how many bytes each write took.
+/// The results of writes, what becomes of three replies that are offered together, and how many bytes each write took.
 const WRITES: &[(&[Written], &[Sent], &[usize])] = &[
     (&[], &[Taken, Taken, Taken], &[16, 20, 24]),
     (&[Errno(2)], &[Untaken, Taken, Taken], &[20, 24]),
@@ -132,7 +134,7 @@ const WRITES: &[(&[Written], &[Sent], &[usize])] = &[
     ),
 ];
 
-/// Offers the three replies: what became of each, and how many bytes each write took.
+/// Offers the three replies. Returns what became of each, and how many bytes each write took.
 fn offer(alloc: Global, told: &[Written]) -> Result<(Vec<Sent>, Vec<usize>), Fail> {
     let log: Log = Arc::new(alloc, Mutex::new(Vec::new(alloc)))?;
     let writes = Vec::from_slice(alloc, told)?;

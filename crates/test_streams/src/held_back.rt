@@ -1,4 +1,4 @@
-//! Replies that are offered one by one while more requests are at hand: when they go out.
+//! Replies that are offered one by one while more requests are available: when they are sent.
 
 use crate::narrow::{Narrow, make_narrow};
 use engine::{LinkIn, LinkOut, Received, Sent};
@@ -10,13 +10,13 @@ use std::test::Fail;
 
 type Held = StreamLink<Empty, Holding<Narrow>>;
 
-/// A link whose writer holds back what it may, before one that takes so many bytes.
+/// A link whose writer holds back what it may, above one that takes that many bytes.
 fn link(alloc: Global, left: usize) -> Held {
     let writer = Holding::new(alloc, make_narrow(alloc, left, true));
     StreamLink::new(alloc, io::empty(), writer)
 }
 
-/// Offers a reply of so many bytes, while more is at hand or not.
+/// Offers a reply of that many bytes, while more is available or not.
 fn offer(alloc: Global, link: &mut Held, len: usize, has_more: bool) -> Result<Sent, AllocError> {
     let mut frame = Vec::new(alloc);
     frame.resize(len, 7u8)?;
@@ -24,7 +24,8 @@ fn offer(alloc: Global, link: &mut Held, len: usize, has_more: bool) -> Result<S
     Ok(link.send(frame.as_slice()))
 }
 
-/// The lengths of replies, whether more was at hand as each was offered, and how many bytes each write brings up to the next receive.
+/// The lengths of replies, whether more was available when each was offered, and how many bytes each write has up to
+/// the next receive.
 const WRITES: &[(&[(usize, bool)], &[usize])] = &[
     (&[], &[]),
     (&[(16, false), (20, false)], &[16, 20]),
@@ -53,7 +54,7 @@ const WRITES: &[(&[(usize, bool)], &[usize])] = &[
     ),
 ];
 
-/// What became of replies that were all taken, and of the receive after them.
+/// What became of replies that were all taken, and of the next receive.
 fn offer_all(
     link: &mut Held,
     alloc: Global,
@@ -82,7 +83,7 @@ fn replies_wait_for_others_that_follow(rt: HostRuntime) -> Result<(), Fail> {
     Ok(())
 }
 
-/// Replies that were held back cannot be handed on: the receive is broken, and counts.
+/// If replies that were held back cannot be sent, the receive is broken, and counts.
 #[test]
 fn receive_breaks_where_nothing_goes_out(rt: HostRuntime) -> Result<(), Fail> {
     for left in 0..36usize {
@@ -102,7 +103,7 @@ fn receive_breaks_where_nothing_goes_out(rt: HostRuntime) -> Result<(), Fail> {
     Ok(())
 }
 
-/// The reply that hands on what was held back breaks the link where that cannot go out.
+/// The reply with which held-back ones are to be sent breaks the link if that fails.
 #[test]
 fn reply_breaks_where_those_before_do_not_go_out(rt: HostRuntime) -> Result<(), Fail> {
     for left in 0..36usize {

@@ -1,4 +1,4 @@
-//! Links over streams and over a device: what comes, what becomes of each reply, and how replies are written.
+//! Links over streams and over a device: what is received, what becomes of each reply, and how replies are written.
 #![tactic(auto)]
 
 #[cfg(test)]

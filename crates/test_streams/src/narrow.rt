@@ -1,4 +1,4 @@
-//! A writer that takes so many bytes, and counts its writes.
+//! A writer that takes a limited number of bytes, and counts its writes.
 
 use std::alloc::Global;
 use std::io;
@@ -10,13 +10,13 @@ pub struct Narrow {
     pub bytes: Vec<u8>,
     /// How many bytes it still takes.
     pub left: usize,
-    /// Whether it hands on what it was given.
+    /// Whether a flush succeeds.
     pub is_flushed: bool,
-    /// How many bytes each write brought.
+    /// How many bytes each write had.
     pub writes: Vec<usize>,
 }
 
-/// A writer that takes so many bytes.
+/// A writer that takes that many bytes.
 pub fn make_narrow(alloc: Global, left: usize, is_flushed: bool) -> Narrow {
     Narrow {
         bytes: Vec::new(alloc),

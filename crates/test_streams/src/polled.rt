@@ -1,4 +1,4 @@
-//! Reads of a socket that ask before they wait: whichever they do, the bytes that were sent come, in order.
+//! Reads of a socket that poll before they block: whichever they do, the bytes that were sent come, in order.
 
 use engine_streams::Polling;
 use std::io;
@@ -7,10 +7,10 @@ use std::os::unix::net::UnixStream;
 use std::test::Fail;
 use std::time::Duration;
 
-/// More reads than those that wait at once after one that asked in vain.
+/// More reads than block at once after one that polled in vain.
 const READS: u8 = 40;
 
-/// Sends one byte after another, and reads each before the next is sent: whether each came alone.
+/// Sends one byte after another, and reads each before the next one is sent. Returns whether each came alone.
 fn exchange(sender: &UnixStream, reader: &mut Polling<'_>) -> io::Result<bool> {
     let mut sender = sender;
     for byte in 0..READS {

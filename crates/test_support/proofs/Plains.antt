@@ -16,7 +16,7 @@ past : (f : OpenFolder) (n : ℕ) → 0 < n → get_or (Some f ∷ []) n None �
 past f zero more = absurd (omega (more, arith))
 past f (suc n) more = refl
 
--- one that bears the next handle is put
+-- one that contains the next handle is stored
 pub bears_put : (folders : List (Option OpenFolder)) (f : OpenFolder) → BearTheirs folders → f.fh ≡ length folders → BearTheirs (folders ++ Some f ∷ [])
 bears_put folders f theirs next fh folder is = elim (cases_lt fh (length folders)) [
   | inl there ↦ theirs fh folder (sym (get_or-append folders (Some f ∷ []) None fh there) ∙ is)
@@ -28,7 +28,7 @@ bears_put folders f theirs next fh folder is = elim (cases_lt fh (length folders
   ]
 ]
 
--- one is given up
+-- one is closed
 pub bears_less : (folders : List (Option OpenFolder)) (i : ℕ) → i < length folders → BearTheirs folders → BearTheirs (slice_set folders i None)
 bears_less folders i within theirs fh folder is = elim (cases_eq fh i) [
   | inl same ↦ absurd (none-some folder (sym (get_or-set_same folders i None None within) ∙ (ap (λ (n : ℕ). at (slice_set folders i None) n) (sym same) ∙ is)))

@@ -9,17 +9,18 @@ use Rattle.handles.specs.Listings.{OpenFolder}
 abbrev pub shown : List (Option (Bor OpenFolder)) → List (Option OpenFolder)
 shown kept = map (option_map (λ folder. folder.now)) kept
 
--- what stands under a handle
+-- what is open under a handle
 abbrev pub at : List (Option OpenFolder) → ℕ → Option OpenFolder
 at folders fh = get_or folders fh None
 
--- A listing that is put bears the next handle and stands under it, what stands under a handle is lent, and nothing stands under one that was given up.
+-- A listing that is stored gets the next handle, what is open under a handle is lent, and nothing is open under one
+-- that was closed.
 abbrev pub Keeps : List (Option OpenFolder) → FolderCall → List (Option OpenFolder) → Type 0
 Keeps old (Put folder None) new = new ≡ old
 Keeps old (Put folder (Some fh)) new = (fh ≡ length old) × (new ≡ old ++ Some (record folder { fh = fh }) ∷ [])
 Keeps old (Lend fh lent) new = (new ≡ old) × (lent ≡ at old fh) × IsLentFor fh lent
 Keeps old (Retire fh gone) new = (gone ≡ is_some (at old fh)) × (new ≡ slice_set old fh None)
 
--- each bears its handle
+-- each contains its own handle
 abbrev pub BearTheirs : List (Option OpenFolder) → Type 0
 BearTheirs folders = (fh : ℕ) (folder : OpenFolder) → at folders fh ≡ Some folder → folder.fh ≡ fh

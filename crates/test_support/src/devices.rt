@@ -1,10 +1,11 @@
-//! A device that tells what a test wrote down.
+//! A device that behaves as a test has written down.
 
 use engine_streams::{DeviceFault, ReadRequest, WriteReply};
 use std::alloc::{AllocError, Global};
 use std::sync::{Arc, Mutex};
 
-/// What reads tell, one after another: a request, or an error number. Behind them nothing is mounted any more (19, `ENODEV`).
+/// The results of reads, in order: a request, or an error number. After them the file system is not mounted any more
+/// (19, `ENODEV`).
 #[derive(Drop)]
 pub struct ScriptedRequests {
     reads: Vec<Result<Vec<u8>, i32>>,
@@ -39,21 +40,21 @@ impl ReadRequest for ScriptedRequests {
     }
 }
 
-/// What a write of a reply tells.
+/// The result of writing a reply.
 #[derive(Clone, Copy, Debug, PartialEq, Eq)]
 pub enum Written {
     /// All of it was taken.
     Whole,
-    /// So many of its bytes were taken, or all where there are no more.
+    /// That many of its bytes were taken, or all if there are no more.
     Part(usize),
-    /// Nothing was taken, for that error.
+    /// Nothing was taken, because of that error.
     Errno(i32),
 }
 
-/// The bytes of each write that took some, one after another.
+/// The bytes of each write that took some, in order.
 pub type Log = Arc<Mutex<Vec<Vec<u8>>>>;
 
-/// What writes tell, one after another. Behind them all are whole.
+/// The results of writes, in order. After them all are complete.
 #[derive(Drop)]
 pub struct ScriptedReplies {
     writes: Vec<Written>,

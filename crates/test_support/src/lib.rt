@@ -1,4 +1,5 @@
-//! What the scripted clients of the tests share: handles of open folders, which a client reads from the replies to its requests, and a device.
+//! What the scripted clients of the tests share: handles of open folders, which a client reads from the replies, and a
+//! device.
 #![tactic(auto)]
 
 mod devices;
@@ -16,8 +17,8 @@ const USES: [u8; 4] = [28, 29, 30, 44];
 /// A handle that no session gives.
 const STRANGER: u64 = u64::MAX;
 
-/// The handles of open folders that came, in that order. A script writes them as their places in it, counted from 1, since which handle a
-/// session gives is its own affair.
+/// The handles of open folders that came, in order. A script writes their position in this order, counted from 1, since
+/// the session is free to choose its handles.
 #[derive(Drop)]
 pub struct Handles {
     came: Vec<u64>,
@@ -25,14 +26,14 @@ pub struct Handles {
     is_opening: bool,
 }
 
-/// The number in eight bytes from there on.
+/// The number in the eight bytes from there on.
 fn number_at(bytes: &[u8], at: usize) -> Option<u64> {
     let end = at.checked_add(8)?;
     let eight: [u8; 8] = bytes.get(at..end)?.try_into().ok()?;
     Some(u64::from_le_bytes(eight))
 }
 
-/// Puts a number into eight bytes from there on, if they are there.
+/// Writes a number into the eight bytes from there on, if there are that many.
 fn put_number(bytes: &mut [u8], at: usize, number: u64) {
     for (byte, new) in bytes.iter_mut().skip(at).zip(number.to_le_bytes()) {
         *byte = new;
@@ -40,7 +41,7 @@ fn put_number(bytes: &mut [u8], at: usize, number: u64) {
 }
 
 impl Handles {
-    /// None has come.
+    /// No handles so far.
     pub fn new(alloc: Global) -> Handles {
         Handles {
             came: Vec::new(alloc),
@@ -48,7 +49,7 @@ impl Handles {
         }
     }
 
-    /// The handle in that place of their order.
+    /// The handle at that position.
     fn handle(&self, place: u64) -> u64 {
         let Some(before) = place.checked_sub(1) else {
             return STRANGER;
@@ -59,7 +60,7 @@ impl Handles {
         }
     }
 
-    /// Makes a frame of a script one that is sent: a handle takes the place of its place.
+    /// Turns a frame of a script into one to be sent: replaces the position by the handle.
     pub fn write(&mut self, frame: &mut [u8]) {
         let opcode = frame.get(4).copied().unwrap_or(0);
         self.is_opening = opcode == OPENDIR;
@@ -71,8 +72,8 @@ impl Handles {
         }
     }
 
-    /// Makes a reply that came to the last frame one of a script: its place takes the place of a handle. One that came before is told
-    /// as 0, which no script waits for.
+    /// Turns the reply to the last frame into one of a script: replaces the handle by its position. A handle that came
+    /// before becomes 0, which no script expects.
     pub fn read(&mut self, reply: &mut [u8]) -> Result<(), AllocError> {
         if !self.is_opening || reply.len() != 32 {
             return Ok(());
@@ -89,7 +90,7 @@ impl Handles {
         Ok(())
     }
 
-    /// A copy of that reply as a script has it.
+    /// A copy of that reply, as a script has it.
     pub fn told(&mut self, alloc: Global, reply: &[u8]) -> Result<Vec<u8>, AllocError> {
         let mut told = Vec::new(alloc);
         told.extend_from_slice(reply)?;

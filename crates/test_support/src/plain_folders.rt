@@ -7,8 +7,8 @@ use std::alloc::Global;
 use std::boxed::Box;
 use std::marker::Model;
 
-/// The open folders of one thread, by handles that are counted from 0. One that was given up is none, and its memory is not given back.
-/// Contracts see them as the list of what stands under each handle.
+/// The open folders of one thread, by handles that are counted from 0. A handle that was closed has none, and its
+/// memory is not reused. Contracts see the list of what each handle has.
 #[derive(Drop)]
 pub struct PlainFolders {
     alloc: Global,
@@ -43,7 +43,7 @@ impl Loan for PlainLoan {
 }
 
 impl PlainFolders {
-    /// None is open.
+    /// No open folders.
     pub fn new(alloc: Global) -> PlainFolders {
         PlainFolders {
             alloc,
@@ -51,7 +51,7 @@ impl PlainFolders {
         }
     }
 
-    /// How many are open.
+    /// How many folders are open.
     pub fn open(&self) -> usize {
         self.kept.iter().filter(|folder| folder.is_some()).count()
     }

@@ -1,4 +1,4 @@
-//! What a begin of a long run may come to.
+//! The possible results of a begin in a long run.
 
 use crate::change::{Change, NONE};
 use crate::event::{Event, only, still};
@@ -7,10 +7,10 @@ use crate::story::{Asks, Told};
 use errno::{EAGAIN, EBADF, EINVAL, ENFILE, ENOTEMPTY, ESTALE};
 use table_image::Image;
 
-/// How many counters of hidden names a request takes that may hide.
+/// By how much the counter of hidden names rises for a request that may hide.
 const TAKEN: u32 = 10;
 
-/// Whether the request uses a handle that is not good for it.
+/// Whether the request uses a handle that it may not use.
 fn is_bad(asks: Asks, before: &Image) -> bool {
     match asks {
         Asks::Read(number, handle) => !may_read(before, number, handle),
@@ -19,7 +19,8 @@ fn is_bad(asks: Asks, before: &Image) -> bool {
     }
 }
 
-/// Whether a request that goes on tells rightly whether it may hide: exactly where the file is open at the name that goes.
+/// Whether the ticket of a request says correctly whether it may hide: exactly if the file at the name to be removed or
+/// replaced is open.
 fn tells(asks: Asks, hides: bool, before: &Image) -> bool {
     match asks {
         Asks::Unlink(parent, name) => hides == is_open_at(before, parent, name),
@@ -31,7 +32,7 @@ fn tells(asks: Asks, hides: bool, before: &Image) -> bool {
     }
 }
 
-/// What the begin of a release came to: no node changes, but those that nothing keeps any more go.
+/// The result of beginning a release: nodes change only in that those that nothing keeps alive any more are dropped.
 fn closed(number: u64, before: &Image, change: Change) -> Option<Event> {
     let event = match openings(before, number) {
         _ if change.gone > 0 && !is_hidden(before, number) => Event::ClosedLast,
@@ -56,7 +57,7 @@ fn closed(number: u64, before: &Image, change: Change) -> Option<Event> {
     )
 }
 
-/// What a begin came to that goes on.
+/// The result of a begin that succeeded.
 fn goes_on(asks: Asks, hides: bool, before: &Image, change: Change) -> Option<Event> {
     let taken = Change {
         counted: TAKEN,
@@ -70,7 +71,7 @@ fn goes_on(asks: Asks, hides: bool, before: &Image, change: Change) -> Option<Ev
     }
 }
 
-/// What the refusal of a request is.
+/// The result of a refusal.
 fn refused(asks: Asks, errno: i32) -> Option<Event> {
     match (errno, asks) {
         (EBADF, Asks::Read(..)) => Some(Event::BadHandle),
@@ -88,7 +89,7 @@ fn refused(asks: Asks, errno: i32) -> Option<Event> {
     }
 }
 
-/// Which request has to wait.
+/// The result for a request that must wait.
 fn waits(asks: Asks) -> Event {
     match asks {
         Asks::Node(_) | Asks::Read(..) => Event::BusyNode,
@@ -102,7 +103,7 @@ fn waits(asks: Asks) -> Event {
     }
 }
 
-/// What a begin came to, whose ticket says whether it may hide, or none where it may not come to that.
+/// The result of a begin, whose ticket says whether it may hide, or none if it is not a possible one.
 pub fn begun(asks: Asks, told: Told, hides: bool, before: &Image, change: Change) -> Option<Event> {
     if is_bad(asks, before) != (told == Told::Refused(EBADF)) {
         return None;

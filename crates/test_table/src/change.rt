@@ -1,4 +1,4 @@
-//! How a table differs from what it was.
+//! How a table differs from an earlier state.
 
 use crate::looks::same_in;
 use table_image::Image;
@@ -7,7 +7,7 @@ use tree::{Node, Place};
 /// What a call changed.
 #[derive(Clone, Copy, PartialEq, Eq)]
 pub struct Change {
-    /// Postings more.
+    /// How many postings were added.
     pub posted: usize,
     /// Nodes that were born.
     pub born: usize,
@@ -17,7 +17,7 @@ pub struct Change {
     pub moved: usize,
     /// Nodes that lost their name.
     pub cut: usize,
-    /// Named nodes that got a hidden mark, or lost it.
+    /// Nodes with a name that got or lost a hidden mark.
     pub marked: usize,
     /// Files that were opened.
     pub opened: usize,

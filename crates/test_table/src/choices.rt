@@ -1,4 +1,4 @@
-//! What a long run does next, by numbers at random and by what the table shows.
+//! What a long run does next, chosen at random and by the state of the table.
 
 use crate::draws::Draws;
 use crate::looks::{node_of, place_of};
@@ -7,18 +7,18 @@ use crate::task::Task;
 use table_image::Image;
 use tree::Node;
 
-/// So many numbers are drawn from where a node need not live.
+/// The range from which numbers are drawn that need not have a living node.
 const NUMBERS: u64 = 8;
 
-/// So many handles are drawn from where no file need be open.
+/// The range from which handles are drawn that need not be open.
 const HANDLES: u64 = 20;
 
-/// The name of a node that has no mark.
+/// The name of a node without a mark.
 fn plain_name(node: &Node) -> Option<(u64, &str)> {
     if node.hidden { None } else { place_of(node) }
 }
 
-/// The name of a node that has an open file and no mark: that of the open file at that place, or of one after it.
+/// The name of a node with an open file and without a mark: of the open file at that index, or of a later one.
 fn open_name(image: &Image, place: usize) -> Option<(u64, &str)> {
     let files = image.files.as_slice();
     for filed in files.iter().skip(place).chain(files.iter()) {
@@ -30,7 +30,7 @@ fn open_name(image: &Image, place: usize) -> Option<(u64, &str)> {
     None
 }
 
-/// The name of a node that has no mark: of the node at that place, or of one after it.
+/// The name of a node without a mark: of the node at that index, or of a later one.
 fn standing_name(image: &Image, place: usize) -> Option<(u64, &str)> {
     let nodes = image.nodes.as_slice();
     let node = nodes
@@ -48,7 +48,7 @@ pub fn hidden_name(image: &Image) -> Option<(u64, &str)> {
 }
 
 impl Draws {
-    /// The number of a living node three times out of four, or any.
+    /// The number of a living node three times out of four, otherwise any.
     fn living(&mut self, image: &Image) -> u64 {
         let place = self.place(image.nodes.as_slice().len());
         match (image.nodes.as_slice().get(place), self.among(4)) {
@@ -57,7 +57,7 @@ impl Draws {
         }
     }
 
-    /// The number of a named node two times out of three, or any.
+    /// The number of a node with a name two times out of three, otherwise any.
     fn number(&mut self, image: &Image) -> u64 {
         let place = self.place(image.nodes.as_slice().len());
         match (image.nodes.as_slice().get(place), self.among(3)) {
@@ -66,7 +66,7 @@ impl Draws {
         }
     }
 
-    /// The number of a named node that has no mark half the time, or any.
+    /// The number of a node with a name and without a mark half the time, otherwise any.
     fn plain(&mut self, image: &Image) -> u64 {
         let place = self.place(image.nodes.as_slice().len());
         match (image.nodes.as_slice().get(place), self.among(2)) {
@@ -75,7 +75,7 @@ impl Draws {
         }
     }
 
-    /// The root, or as often a number.
+    /// The root half the time, otherwise a number.
     fn parent(&mut self, image: &Image) -> u64 {
         match self.among(2) {
             0 => ROOT,
@@ -83,7 +83,7 @@ impl Draws {
         }
     }
 
-    /// The name of a node that has no mark half the time, or any.
+    /// The name of a node without a mark half the time, otherwise any.
     fn source<'a>(&mut self, image: &'a Image) -> (u64, &'a str) {
         let place = self.place(image.nodes.as_slice().len());
         match (image.nodes.as_slice().get(place), self.among(2)) {
@@ -95,7 +95,7 @@ impl Draws {
         }
     }
 
-    /// The name of an open file three times out of four, or any.
+    /// The name of an open file three times out of four, otherwise any.
     fn target<'a>(&mut self, image: &'a Image) -> (u64, &'a str) {
         let place = self.place(image.files.as_slice().len());
         match (open_name(image, place), self.among(4)) {
@@ -121,14 +121,14 @@ impl Draws {
         Asks::Move(parent, name, new_parent, new_name)
     }
 
-    /// A move that keeps what stands at its target, which may be an open file.
+    /// A move that keeps what is at its target, which may be an open file.
     fn keep<'a>(&mut self, image: &'a Image) -> Asks<'a> {
         let (parent, name) = self.source(image);
         let (new_parent, new_name) = self.target(image);
         Asks::Keep(parent, name, new_parent, new_name)
     }
 
-    /// The name of a node that has no mark three times out of four, or any.
+    /// The name of a node without a mark three times out of four, otherwise any.
     fn standing<'a>(&mut self, image: &'a Image) -> (u64, &'a str) {
         let place = self.place(image.nodes.as_slice().len());
         match (standing_name(image, place), self.among(4)) {
@@ -143,7 +143,7 @@ impl Draws {
         Asks::Exchange(parent, name, new_parent, new_name)
     }
 
-    /// A node and the handle of an open file, three times out of four, or any.
+    /// A node and the handle of an open file three times out of four, otherwise any.
     fn handle(&mut self, image: &Image) -> (u64, u64) {
         let place = self.place(image.files.as_slice().len());
         match (image.files.as_slice().get(place), self.among(4)) {
@@ -160,7 +160,7 @@ impl Draws {
         }
     }
 
-    /// What changes names, by a choice of 8 to 20, or of 38 on.
+    /// A request that changes names, for a choice of 8 to 20, or from 38 on.
     fn change<'a>(&mut self, choice: u64, image: &'a Image) -> Asks<'a> {
         match choice {
             8..=13 => self.removal(image),
@@ -181,7 +181,7 @@ impl Draws {
         Asks::Read(number, handle)
     }
 
-    /// What leaves names as they are, by another choice.
+    /// A request that does not change names, for other choices.
     fn use_of<'a>(&mut self, choice: u64, image: &'a Image) -> Asks<'a> {
         match choice {
             0..=2 => Asks::Node(self.number(image)),
@@ -203,7 +203,7 @@ impl Draws {
         }
     }
 
-    /// A candidate that a file is hidden under, or, one time in five, an index that is none.
+    /// A candidate under which a file is hidden, or, one time in five, an index without a candidate.
     fn candidate(&mut self) -> u8 {
         let index = match self.among(5) {
             0 => 10,
@@ -212,7 +212,7 @@ impl Draws {
         u8::try_from(index).unwrap_or(0)
     }
 
-    /// What the names of a page come to.
+    /// The outcome for a page with that many names.
     fn page_end(&mut self, draw: u64, names: usize) -> Outcome<'static> {
         match draw {
             1 => Outcome::Entry,
@@ -220,7 +220,7 @@ impl Draws {
         }
     }
 
-    /// What a removal comes to, which may hide or may not.
+    /// The outcome of a removal, which may or may not hide.
     fn removal_end(&mut self, draw: u64, hides: bool) -> Outcome<'static> {
         match draw {
             1 => Outcome::Entry,
@@ -230,7 +230,7 @@ impl Draws {
         }
     }
 
-    /// What a move comes to, which may hide or may not.
+    /// The outcome of a move, which may or may not hide.
     fn move_end(&mut self, draw: u64, hides: bool) -> Outcome<'static> {
         match draw {
             1 => Outcome::Entry,
@@ -240,7 +240,8 @@ impl Draws {
         }
     }
 
-    /// What a request comes to that is done, or may be given an entry: mostly to the first, and once to the other.
+    /// The outcome of a request that is done or is given an entry: usually the first of these, and sometimes the
+    /// second.
     fn plain_end(draw: u64, mostly: Outcome<'static>, once: Outcome<'static>) -> Outcome<'static> {
         match draw {
             1 => once,
@@ -248,7 +249,7 @@ impl Draws {
         }
     }
 
-    /// What a request comes to: mostly to what fits it.
+    /// The outcome of a request, usually one that fits it.
     pub fn outcome(&mut self, task: Task) -> Outcome<'static> {
         let draw = self.among(8);
         if draw == 0 {
@@ -272,7 +273,7 @@ impl Draws {
         }
     }
 
-    /// Lookups of a node that are given back.
+    /// A forget of lookups of a node.
     pub fn forget(&mut self, image: &Image) -> Step<'static> {
         let number = self.living(image);
         Step::Forget(number, self.among(6), Told::Shown)

@@ -1,6 +1,6 @@
-//! Numbers at random.
+//! Random numbers.
 
-/// Numbers at random, the same in each run.
+/// Random numbers, the same ones in each run.
 #[derive(Drop)]
 pub struct Draws {
     pub x: u64,
@@ -15,7 +15,7 @@ impl Draws {
         self.x >> 32
     }
 
-    /// A choice among so many, or 0 among none.
+    /// A number below `n`, or 0 if `n` is 0.
     pub fn among(&mut self, n: u64) -> u64 {
         let draw = self.next();
         if n == 0 { 0 } else { draw % n }
@@ -25,7 +25,7 @@ impl Draws {
         self.among(len as u64) as usize
     }
 
-    /// Some names of a page.
+    /// Names for a page.
     pub fn page(&mut self) -> &'static [&'static str] {
         match self.among(5) {
             0 => &["a"],
@@ -36,7 +36,7 @@ impl Draws {
         }
     }
 
-    /// Which of so many names are there, by a choice: in one of six for another page.
+    /// Which of that many names exist, for this choice; in one of six cases for another page.
     pub fn found(&self, names: usize, choice: u64) -> &'static [bool] {
         match (names, choice) {
             (_, 2) => &[true, true, true, true],

@@ -1,4 +1,4 @@
-//! What the end of a request of a long run may come to.
+//! The possible results of ending a request in a long run.
 
 use crate::change::{Change, NONE};
 use crate::event::{Event, only, still};
@@ -19,7 +19,7 @@ fn given(generation: u64, change: Change) -> Option<Event> {
     }
 }
 
-/// What the end of a LOOKUP came to.
+/// The result of ending a LOOKUP.
 fn named(outcome: Outcome, told: Told, change: Change) -> Option<Event> {
     match (outcome, told) {
         (Outcome::Entry, Told::Given(_, generation)) => given(generation, change),
@@ -29,7 +29,7 @@ fn named(outcome: Outcome, told: Told, change: Change) -> Option<Event> {
     }
 }
 
-/// What the end of the making of a file came to.
+/// The result of ending a CREATE.
 fn created(outcome: Outcome, told: Told, change: Change) -> Option<Event> {
     match (outcome, told) {
         (Outcome::Entry, Told::Given(_, generation)) if change.opened == 1 => {
@@ -47,7 +47,7 @@ fn created(outcome: Outcome, told: Told, change: Change) -> Option<Event> {
     }
 }
 
-/// How many entries a finish told of.
+/// How many entries a finish reported.
 pub fn entries_of(told: Told) -> u64 {
     match told {
         Told::Given(..) => 1,
@@ -60,7 +60,7 @@ fn found_in(found: &[bool]) -> u64 {
     found.iter().filter(|found| **found).count() as u64
 }
 
-/// What the end of a page of so many names came to, which told of so many entries.
+/// The result of ending a page with that many names, which reported that many entries.
 fn filled(names: usize, found: &[bool], entries: u64, change: Change) -> Option<Event> {
     let (posted, born) = (change.posted as u64, change.born as u64);
     if born > entries || posted != entries.saturating_add(born) {
@@ -91,7 +91,7 @@ fn filled(names: usize, found: &[bool], entries: u64, change: Change) -> Option<
     still(rest, event)
 }
 
-/// What the end of a page came to.
+/// The result of ending a page.
 fn paged(names: usize, outcome: Outcome, told: Told, change: Change) -> Option<Event> {
     match outcome {
         Outcome::Entries(found) => filled(names, found, entries_of(told), change),
@@ -100,7 +100,7 @@ fn paged(names: usize, outcome: Outcome, told: Told, change: Change) -> Option<E
     }
 }
 
-/// What the end of the opening of a file came to.
+/// The result of ending an OPEN.
 fn opened(outcome: Outcome, change: Change) -> Option<Event> {
     match outcome {
         Outcome::Done => only(Change { opened: 1, ..NONE }, change, Event::Opened),
@@ -108,7 +108,7 @@ fn opened(outcome: Outcome, change: Change) -> Option<Event> {
     }
 }
 
-/// Whether nodes are cut, and some of them dropped, and nothing else is changed.
+/// Whether nodes are cut, and some of them dropped, and nothing else has changed.
 fn cuts(change: Change) -> bool {
     let rest = Change {
         cut: 0,
@@ -118,7 +118,7 @@ fn cuts(change: Change) -> bool {
     rest == NONE && change.cut > 0
 }
 
-/// What the end of a removal came to.
+/// The result of ending a removal.
 fn removed(hides: bool, outcome: Outcome, change: Change) -> Option<Event> {
     let hidden = Change {
         moved: 1,
@@ -141,7 +141,7 @@ fn removed(hides: bool, outcome: Outcome, change: Change) -> Option<Event> {
     }
 }
 
-/// What the end of a move came to that was done, where a node stood at its source, if so told.
+/// The result of ending a move that was done; `known` says whether its source had a node.
 fn replaced(known: bool, change: Change) -> Option<Event> {
     let rest = Change {
         cut: 0,
@@ -155,7 +155,7 @@ fn replaced(known: bool, change: Change) -> Option<Event> {
     }
 }
 
-/// What the end of a move came to that may hide what stands at its target.
+/// The result of ending a move that may hide what is at its target.
 fn hidden_move(known: bool, moved: bool, change: Change) -> Option<Event> {
     let both = Change {
         moved: if moved && known { 2 } else { 1 },
@@ -173,7 +173,7 @@ fn hidden_move(known: bool, moved: bool, change: Change) -> Option<Event> {
     )
 }
 
-/// What the end of a move came to.
+/// The result of ending a move.
 fn moved(hides: bool, known: bool, outcome: Outcome, change: Change) -> Option<Event> {
     match outcome {
         Outcome::HiddenMove(index, moved) if hides && index < 10 => hidden_move(
@@ -185,7 +185,7 @@ fn moved(hides: bool, known: bool, outcome: Outcome, change: Change) -> Option<E
     }
 }
 
-/// What the end of an exchange came to, where nodes stood at so many of its names.
+/// The result of ending an exchange, where that many of its names had nodes.
 fn exchanged(known: usize, outcome: Outcome, change: Change) -> Option<Event> {
     let moved = Change {
         moved: known,
@@ -199,7 +199,7 @@ fn exchanged(known: usize, outcome: Outcome, change: Change) -> Option<Event> {
     }
 }
 
-/// What the end of a release came to, which is that of the last handle of a hidden file, if so told.
+/// The result of ending a release; `last` says whether it is that of the last handle of a hidden file.
 fn released(last: bool, outcome: Outcome, change: Change) -> Option<Event> {
     match (outcome, last) {
         (Outcome::Done, true) if cuts(change) => Some(Event::RemovedHidden),
@@ -210,7 +210,7 @@ fn released(last: bool, outcome: Outcome, change: Change) -> Option<Event> {
     }
 }
 
-/// What the end of a request came to, or none where it may not come to that.
+/// The result of ending a request, or none if it is not a possible one.
 pub fn finished(task: Task, outcome: Outcome, told: Told, change: Change) -> Option<Event> {
     match task {
         Task::Name => named(outcome, told, change),

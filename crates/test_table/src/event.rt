@@ -1,11 +1,11 @@
-//! What a call of a long run may come to.
+//! The possible results of a call in a long run.
 
 use crate::change::{Change, NONE};
 
-/// What a call came to.
+/// The result of a call.
 #[derive(Clone, Copy, PartialEq, Eq)]
 pub enum Event {
-    /// A request goes on.
+    /// A request began.
     Begun,
     BusyNode,
     BusyName,
@@ -17,52 +17,52 @@ pub enum Event {
     BusyRelease,
     /// One path of a move is a prefix of the other.
     Astray,
-    /// The same of two names that were to change places.
+    /// The same for two names that were to be exchanged.
     Entangled,
-    /// No node may be added, or no posting, or for a file that is to be made no open file.
+    /// No more nodes or postings may be added, or no more files opened for a CREATE.
     Full,
     FullPage,
-    /// One file more may not be opened.
+    /// No more files may be opened.
     FullFiles,
-    /// No request may be in flight beside the others.
+    /// No more requests may be in flight.
     Crowded,
     StaleNode,
     StaleName,
-    /// The handle is not that of an open file of the node, or not for reading.
+    /// The handle is not that of an open file of the node, or not open for reading.
     BadHandle,
-    /// The same of a handle that is to be closed.
+    /// The same for a handle that is to be closed.
     BadRelease,
-    /// A removal goes on that may hide, since the file at its name is open.
+    /// A removal began that may hide, since the file at its name is open.
     MayHide,
-    /// A move goes on that may hide, since the file at its target is open.
+    /// A move began that may hide, since the file at its target is open.
     MoveMayHide,
     /// A handle is closed.
     Closed,
-    /// The same, and its node goes, which nothing else keeps.
+    /// The same, and its node is dropped, since nothing else keeps it alive.
     ClosedLast,
-    /// The same, of a node that is cut and is kept by something else.
+    /// The same, for a node that is cut and is kept alive by something else.
     ClosedCut,
-    /// The same, of a hidden file that has other handles.
+    /// The same, for a hidden file that has other handles.
     ClosedHidden,
     /// The same, and it was the last handle of a hidden file.
     ClosedHiddenLast,
-    /// An entry of a node that stands.
+    /// An entry of an existing node.
     Entry,
-    /// An entry of a new node, under a number that is new.
+    /// An entry of a new node, with a new number.
     Birth,
-    /// An entry of a new node, under the number of a dropped one.
+    /// An entry of a new node, with the number of a dropped one.
     Rebirth,
     FailedName,
-    /// The outcome is none of a LOOKUP.
+    /// The outcome does not fit a LOOKUP.
     MisfitName,
-    /// An entry, and its file is opened.
+    /// An entry, and a file of it is opened.
     Created,
     FailedCreate,
     /// Entries of a page.
     Page,
     /// The same, with a birth.
     PageBirth,
-    /// The same, but a name that was found is given nothing, since another holds it alone.
+    /// The same, but a name that was found gets no entry, since another request holds it exclusively.
     Withheld,
     EmptyPage,
     MisfitPage,
@@ -70,65 +70,65 @@ pub enum Event {
     /// A file is opened.
     Opened,
     FailedOpen,
-    /// What stood at a name is cut.
+    /// What was at a name is cut.
     Cut,
-    /// The same, though the removal might have hidden it.
+    /// The same, although the removal might have hidden it.
     CutThoughOpen,
     RemovedNothing,
     FailedRemoval,
-    /// What stood at a name is moved to a candidate and marked.
+    /// What was at a name is moved to a candidate and marked.
     Hidden,
-    /// Nothing is, since there is no candidate of that index.
+    /// Nothing changes, since there is no candidate with that index.
     MisfitHidden,
     Moved,
-    /// Nothing stood at the old name; what stood at the new one is cut.
+    /// Nothing was at the old name; what was at the new one is cut.
     MovedNothingOnto,
     MovedNothing,
     MovedToItself,
     FailedMove,
-    /// What stood at the new name is moved to a candidate and marked, and the move is made.
+    /// What was at the new name is moved to a candidate and marked, and the move is made.
     HiddenMove,
-    /// The same, and the move is not made.
+    /// The same, but the move is not made.
     HiddenAlone,
-    /// Nothing is, since there is no candidate of that index.
+    /// Nothing changes, since there is no candidate with that index.
     MisfitHiddenMove,
-    /// What stood at two names has changed places.
+    /// What was at two names is exchanged.
     Exchanged,
-    /// What stood at one of them stands at the other.
+    /// Only one of them had a node, which is now at the other.
     ExchangedOne,
     ExchangedNothing,
     ExchangedWithItself,
     FailedExchange,
     Released,
     FailedRelease,
-    /// The last release of a hidden file removes it.
+    /// The release of the last handle of a hidden file removes it.
     RemovedHidden,
-    /// The last release of a hidden file failed, so that the mark stays.
+    /// Removing a hidden file at the release of its last handle failed, so the mark stays.
     FailedHidden,
     Settled,
-    /// An entry whose reply was not taken comes back.
+    /// An entry whose reply was not taken is given back.
     GivenBack,
-    /// It does not, since it was forgotten before.
+    /// It is not, since it was forgotten before.
     ForgottenFirst,
-    /// A file whose reply was not taken is closed, and no entry comes back.
+    /// A file whose reply was not taken is closed, and no entry is given back.
     ClosedUntaken,
-    /// The same, and its entry comes back.
+    /// The same, and its entry is given back.
     Undone,
     /// As many lookups as were asked for.
     Forgotten,
-    /// Fewer, since the count is less.
+    /// Fewer, since the count is lower.
     Partly,
     NothingForgotten,
-    /// A period of the ledger has ended, and of each node but the root an opening is left.
+    /// A period of the ledger has ended, and an opening is left of each node except the root.
     PeriodEnded,
 }
 
-/// What a call came to that may change nothing.
+/// The result of a call that must not change anything.
 pub fn still(change: Change, event: Event) -> Option<Event> {
     only(NONE, change, event)
 }
 
-/// What a call came to that must change that.
+/// The result of a call that must change exactly this.
 pub fn only(said: Change, change: Change, event: Event) -> Option<Event> {
     if change == said { Some(event) } else { None }
 }

@@ -1,4 +1,4 @@
-//! Names that change places, and moves that keep what stands at their target.
+//! Exchanges of names, and moves that keep what is at their target.
 
 use crate::story::Asks::{Exchange, Keep, Name, Node, Open, Unlink};
 use crate::story::Spot::{At, Cut, Hidden};
@@ -9,7 +9,7 @@ use errno::EINVAL;
 use std::test::Fail;
 use table_image::ImageStage::Working;
 
-/// A file and a folder change places, with what is in the folder. Meanwhile both names are held.
+/// A file and a folder are exchanged, with what is in the folder. Meanwhile both names are held.
 const FILE_AND_FOLDER: Story = Story {
     limits: DEFAULT,
     steps: &[
@@ -56,7 +56,7 @@ const KNOWN: &[Living] = &[
     Living(3, 0, At(2, "x"), 1),
 ];
 
-/// No name changes places with one below it, and one with itself changes nothing.
+/// A name cannot be exchanged with one below it, and exchanging it with itself changes nothing.
 const OWN_FRONTS: Story = Story {
     limits: DEFAULT,
     steps: &[
@@ -79,8 +79,8 @@ fn exchanges_with_own_prefixes(rt: HostRuntime) -> Result<(), Fail> {
     run(&rt, &OWN_FRONTS)
 }
 
-/// Where a node stands at one name alone it moves to the other, from whichever side, and where none does, nothing changes; nor does
-/// anything by what does not fit.
+/// If only one of the names has a node, it moves to the other, whichever it is. If neither has one, nothing changes,
+/// and neither does anything for an outcome that does not fit.
 const ACROSS_FOLDERS: Story = Story {
     limits: DEFAULT,
     steps: &[
@@ -126,7 +126,7 @@ fn exchanged_across_folders(rt: HostRuntime) -> Result<(), Fail> {
     run(&rt, &ACROSS_FOLDERS)
 }
 
-/// Names with nodes that requests use are not exchanged until then, nor those with paths that others hold.
+/// Names are not exchanged while requests use nodes at them, nor while others hold paths of them.
 const IN_FLIGHT: Story = Story {
     limits: DEFAULT,
     steps: &[
@@ -156,7 +156,7 @@ fn exchanges_in_flight(rt: HostRuntime) -> Result<(), Fail> {
     run(&rt, &IN_FLIGHT)
 }
 
-/// A hidden mark stays with its node, and no open file is hidden by an exchange.
+/// A hidden mark stays with its node, and an exchange hides no open file.
 const MARKED: Story = Story {
     limits: DEFAULT,
     steps: &[
@@ -190,7 +190,8 @@ fn exchanged_marks(rt: HostRuntime) -> Result<(), Fail> {
     run(&rt, &MARKED)
 }
 
-/// A move that keeps its target hides no open file there: it tells two paths, no outcome hides, and one that is done is a move.
+/// A move that keeps its target hides no open file there: its ticket has two paths, no outcome hides, and when it is
+/// done it is a move.
 const KEPT: Story = Story {
     limits: DEFAULT,
     steps: &[

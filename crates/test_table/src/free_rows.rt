@@ -1,4 +1,4 @@
-//! Counts that are free: the period ends before a call that it has no room for.
+//! Free counts: the period ends before a call for which it has no room.
 
 use crate::story::Asks::{Name, Node};
 use crate::story::Posted::{Back, Born, Entry, Forget, Opening};
@@ -18,7 +18,7 @@ const SIX: Limits = Limits {
     ..DEFAULT
 };
 
-/// Two nodes, and five.
+/// Two nodes, and five postings.
 const FIVE: Limits = Limits {
     nodes: 2,
     postings: 5,
@@ -26,10 +26,10 @@ const FIVE: Limits = Limits {
     ..DEFAULT
 };
 
-/// Three nodes, and five.
+/// Three nodes, and five postings.
 const TOO_FEW: Limits = Limits { nodes: 3, ..FIVE };
 
-/// A name is looked up more often than a period has postings. The one that would need a seventh ends it.
+/// A name is looked up more often than a period has postings. The lookup that would need a seventh ends the period.
 const LOOKED_UP: Story = Story {
     limits: SIX,
     steps: &[
@@ -71,7 +71,7 @@ const FORGOTTEN: Story = Story {
     gathers: Sum::All(1, 5, 0, 5),
 };
 
-/// A reply that was not taken goes back in a period that begins for it.
+/// An entry whose reply was not taken is given back in a period that begins for it.
 const UNTAKEN: Story = Story {
     limits: SIX,
     steps: &[
@@ -88,7 +88,7 @@ const UNTAKEN: Story = Story {
     gathers: Sum::All(1, 3, 1, 2),
 };
 
-/// A node that a request pins is carried over with the count 0, while the request goes on.
+/// A node that a request pins is carried over with count 0 while the request is in progress.
 const PINNED: Story = Story {
     limits: SIX,
     steps: &[
@@ -105,7 +105,7 @@ const PINNED: Story = Story {
     gathers: Sum::All(2, 3, 0, 1),
 };
 
-/// A period that has just begun has room for all nodes and what is promised, or the request is refused.
+/// If a period that has just begun would not have room for all nodes and for what is promised, the request is refused.
 const REFUSED: Story = Story {
     limits: TOO_FEW,
     steps: &[

@@ -1,4 +1,4 @@
-//! What a settle or a forget of a long run may come to.
+//! The possible results of a settle or a forget in a long run.
 
 use crate::change::{Change, NONE};
 use crate::event::{Event, only, still};
@@ -6,14 +6,14 @@ use crate::looks::file_of;
 use crate::story::{Reply, Told};
 use table_image::Image;
 
-/// What an answer gives to the client: so many entries, and the handle of a file that was opened.
+/// What an answer gives to the client: that many entries, and the handle of a file that was opened.
 #[derive(Clone, Copy)]
 pub struct Gains {
     pub entries: u64,
     pub handle: Option<u64>,
 }
 
-/// Whether a settle closes the file that its request opened: it was not taken, and the file still is open.
+/// Whether a settle closes the file that its request opened: the reply was not taken, and the file is still open.
 fn closes(reply: Reply, gains: Gains, before: &Image) -> bool {
     match gains.handle {
         Some(handle) => reply == Reply::Untaken && file_of(before, handle).is_some(),
@@ -21,7 +21,7 @@ fn closes(reply: Reply, gains: Gains, before: &Image) -> bool {
     }
 }
 
-/// What the settle of an answer came to, or none where it may not come to that.
+/// The result of settling an answer, or none if it is not a possible one.
 pub fn settled(
     reply: Reply,
     gains: Gains,
@@ -54,7 +54,7 @@ pub fn settled(
     only(closed, rest, event)
 }
 
-/// What a forget of n lookups came to, where the count was that, or none where it may not come to that.
+/// The result of forgetting n lookups of a node with that count, or none if it is not a possible one.
 pub fn forgotten(n: u64, count: u64, told: Told, change: Change) -> Option<Event> {
     let amount = n.min(count);
     if told != Told::Amount(amount) {

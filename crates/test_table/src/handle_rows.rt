@@ -1,4 +1,4 @@
-//! Handles, which are tested before all else.
+//! Handles, which are tested before everything else.
 
 use crate::story::Asks::{Create, Node, Open, Read, Release, Remove};
 use crate::story::Told::{Busy, Ended, Given, Go, Refused, Settled};
@@ -13,8 +13,8 @@ fn error_number_of_a_bad_handle(rt: HostRuntime) {
     assert_eq!(rt; EBADF, 9);
 }
 
-/// Whether the handle is good is asked first: also where no node bears the number, where the handle is that of another node or for writing alone, where
-/// another request is in the way, and where the node has no path any more.
+/// The handle is tested first: also if no node has the number, if the handle is that of another node or open only for
+/// writing, if there is a conflict, and if the node has no path any more.
 const HANDLE_FIRST: Story = Story {
     limits: DEFAULT,
     steps: &[
@@ -51,7 +51,8 @@ const HANDLE_FIRST: Story = Story {
     gathers: Sum::All(2, 2, 0, 0),
 };
 
-/// It is asked before the requests in flight too, and so is whether one file more may be opened. A release that is refused closes nothing.
+/// It is tested before the requests in flight too, and so is the limit on open files. A release that is refused closes
+/// nothing.
 const HANDLE_BEFORE_FLIGHTS: Story = Story {
     limits: Limits {
         flights: 1,

@@ -1,4 +1,4 @@
-//! Names that open files are hidden under, the counter that tells them apart, and what is left of hidden files.
+//! Names under which open files are hidden, the counter that keeps them apart, and what is left of hidden files.
 
 use crate::long_rows::{first, long_name};
 use crate::story::Asks::{Move, Name, Node, Open, Remove, Unlink};
@@ -12,7 +12,7 @@ use std::test::Fail;
 use table::Limits;
 use table_image::ImageStage::Working;
 
-/// The name `a`, and those that the file of node 2 may be hidden under while the counter is 0.
+/// The name `a`, and the candidates for the file of node 2 while the counter is 0.
 const OF_TWO: &[&str] = &[
     "a",
     ".fuse_hidden0000000200000000",
@@ -27,7 +27,7 @@ const OF_TWO: &[&str] = &[
     ".fuse_hidden0000000200000009",
 ];
 
-/// The name `b`, and those of node 3 while it is ten.
+/// The name `b`, and the candidates for the file of node 3 while the counter is ten.
 const OF_THREE: &[&str] = &[
     "b",
     ".fuse_hidden000000030000000a",
@@ -42,7 +42,7 @@ const OF_THREE: &[&str] = &[
     ".fuse_hidden0000000300000013",
 ];
 
-/// These are held for the removal alone.
+/// These are held exclusively for the removal.
 const HELD: &[Holding] = &[
     Holding("b", 0, 1),
     Holding(".fuse_hidden000000030000000a", 0, 1),
@@ -57,7 +57,8 @@ const HELD: &[Holding] = &[
     Holding(".fuse_hidden0000000300000013", 0, 1),
 ];
 
-/// Only a removal that goes on takes ten counters: not one that has to wait, is refused, or finds no open file. One that fails then has taken them.
+/// Only a removal that begins uses up ten counters: not one that must wait, is refused, or finds no open file. One that
+/// fails afterwards has used them up.
 const COUNTERS: Story = Story {
     limits: Limits {
         flights: 2,
@@ -109,7 +110,8 @@ fn ten_counters_a_removal(rt: HostRuntime) -> Result<(), Fail> {
     run(&rt, &COUNTERS)
 }
 
-/// A node that stands at a candidate is pinned, and cut where that candidate is taken. What is hidden may be hidden once more, and keeps its mark.
+/// A node at a candidate is pinned, and cut if that candidate is used. What is hidden may be hidden again, and keeps
+/// its mark.
 const TAKEN_NAME: Story = Story {
     limits: DEFAULT,
     steps: &[
@@ -145,8 +147,8 @@ fn candidate_is_taken(rt: HostRuntime) -> Result<(), Fail> {
     run(&rt, &TAKEN_NAME)
 }
 
-/// The files of `e`, `d/x` and `a` are hidden in this order, and told by the numbers of their nodes. A folder that is moved takes its hidden file along, and one
-/// that is removed takes away the mark.
+/// The files of `e`, `d/x` and `a` are hidden in this order, and listed by the numbers of their nodes. A folder that is
+/// moved takes its hidden file along, and one that is removed takes away the mark.
 const LEFTOVERS: Story = Story {
     limits: DEFAULT,
     steps: &[
@@ -203,8 +205,8 @@ fn leftovers_by_number(rt: HostRuntime) -> Result<(), Fail> {
     run(&rt, &LEFTOVERS)
 }
 
-/// A path of 4,067 bytes, and a candidate in it, have 4,096 together. In a folder whose path is a byte longer the removal of an open file is refused, though the path
-/// of the file is short enough, before any request in the way.
+/// A path of 4,067 bytes with a candidate in it has 4,096 bytes. In a folder whose path is one byte longer the removal
+/// of an open file is refused, though the path of the file is short enough, and before any conflict.
 #[test]
 fn candidate_is_too_long(rt: HostRuntime) -> Result<(), Fail> {
     let name = long_name(rt.alloc(), 4_067)?;

@@ -6,7 +6,7 @@ use crate::story::{DEFAULT, Living, Outcome, ROOT, Reply, Spot, Step, Story, Sum
 use crate::teller::run;
 use std::test::Fail;
 
-/// The name `a`, and those that the file of node 2 may be hidden under first.
+/// The name `a`, and the first candidates for its file.
 const PATHS: &[&str] = &[
     "a",
     ".fuse_hidden0000000200000000",
@@ -21,8 +21,8 @@ const PATHS: &[&str] = &[
     ".fuse_hidden0000000200000009",
 ];
 
-/// The file of `a` is open, so its node is moved to the second candidate and marked, and lives on without a lookup. Ten names were
-/// taken: those of the next file that is hidden have the counters from ten on.
+/// The file of `a` is open, so its node is moved to the second candidate and marked, and stays alive without a lookup.
+/// Ten names are used up: those of the next file to be hidden have the counters from ten on.
 const HIDDEN: Story = Story {
     limits: DEFAULT,
     steps: &[
@@ -60,7 +60,8 @@ const HIDDEN: Story = Story {
     gathers: Sum::All(2, 2, 0, 1),
 };
 
-/// A removal that may not hide cuts the node, whose file stays open; so does one that was done, and what does not fit changes nothing.
+/// A removal that may not hide cuts the node, whose file stays open; so does one with the outcome Done, and an outcome
+/// that does not fit changes nothing.
 const UNHIDDEN: Story = Story {
     limits: DEFAULT,
     steps: &[

@@ -11,7 +11,7 @@ use std::test::Fail;
 use table::Limits;
 use table_image::ImageStage::{Answered, Working};
 
-/// The LOOKUP of a name waits for its removal, though no node stands there. Then the directory has no such name.
+/// The LOOKUP of a name waits for its removal, even if it has no node. Afterwards the directory does not have the name.
 const AT_NO_NODE: Story = Story {
     limits: DEFAULT,
     steps: &[
@@ -30,13 +30,13 @@ const AT_NO_NODE: Story = Story {
     gathers: Sum::All(0, 0, 0, 0),
 };
 
-/// Three nodes may be, so that a promised one shows.
+/// There may be three nodes, so that a promised one shows.
 const THREE_NODES: Limits = Limits {
     nodes: 3,
     ..DEFAULT
 };
 
-/// While `a` is removed, others wait for it. Then node 2 is cut, and a LOOKUP of `a` is promised the third node.
+/// While `a` is being removed, others wait. Then node 2 is cut, and a LOOKUP of `a` is promised the third node.
 const WAITS_AND_IS_DONE: Story = Story {
     limits: THREE_NODES,
     steps: &[
@@ -64,7 +64,7 @@ const WAITS_AND_IS_DONE: Story = Story {
     gathers: Sum::All(2, 2, 0, 0),
 };
 
-/// Where the removal fails, node 2 stands as before: a LOOKUP of `a` needs no other, and the third node is free.
+/// If the removal fails, node 2 is as before: a LOOKUP of `a` needs no other, and the third node is free.
 const WAITS_AND_FAILS: Story = Story {
     limits: THREE_NODES,
     steps: &[
@@ -133,7 +133,8 @@ fn remove_waits_for_lookup(rt: HostRuntime) -> Result<(), Fail> {
     run(&rt, &HELD_TWICE)
 }
 
-/// A folder is not removed while something in it is worked on, nor its entry while the folder is removed.
+/// A folder is not removed while a request for something in it is in progress, and no request for an entry begins while
+/// the folder is being removed.
 const FOLDER: Story = Story {
     limits: DEFAULT,
     steps: &[
@@ -179,7 +180,8 @@ fn folder_waits_for_what_is_in_it(rt: HostRuntime) -> Result<(), Fail> {
     run(&rt, &FOLDER)
 }
 
-/// The request that began alone holds what it holds, whoever comes and goes beside it: no other is in its place until it ends.
+/// The request that began alone keeps holding what it holds, whatever requests come and go: no other takes its place
+/// until it ends.
 const FIRST_STAYS: Story = Story {
     limits: DEFAULT,
     steps: &[
@@ -228,7 +230,7 @@ fn first_stays_while_others_go(rt: HostRuntime) -> Result<(), Fail> {
     run(&rt, &FIRST_STAYS)
 }
 
-/// A removal of `d` and LOOKUPs of `a` and of `e` below it hold what they name, whether or not a node stands there.
+/// A removal of `d` and LOOKUPs of `a` and of `e` below it hold what they name, whether or not these have nodes.
 const WHAT_IS_HELD: Story = Story {
     limits: DEFAULT,
     steps: &[

@@ -25,7 +25,7 @@ fn opened_table_exports_the_root(rt: HostRuntime) -> Result<(), Fail> {
     run(&rt, &OPENED)
 }
 
-/// Node 2 is `a` with two lookups, one of them given back; node 3 is `x` below it, not settled; `e` was begun.
+/// Node 2 is `a` with two lookups, one of which was given back; node 3 is `x` below it, not settled; `e` was begun.
 const WORKED: Story = Story {
     limits: DEFAULT,
     steps: &[

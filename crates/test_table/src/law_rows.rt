@@ -1,4 +1,4 @@
-//! The law of what requests hold, on images made by hand.
+//! The law of what requests hold, tested on images made by hand.
 
 use crate::shows::path_of;
 use crate::story::{Holding, ROOT};
@@ -13,12 +13,12 @@ use table_image::{
 };
 use tree::{Key, Node, Place};
 
-/// A request that pins node 2: how far it is, a number and the path that it was given for it, the paths that it
-/// shares, and those that it holds alone.
+/// A request that pins node 2: how far it is, a number and the path that was recorded for it, the paths that it shares,
+/// and those that it holds exclusively.
 #[derive(Clone, Copy)]
 struct Made<'a>(ImageStage, u64, &'a str, &'a [&'a str], &'a [&'a str]);
 
-/// An image of these requests, of what they hold, and of the folder `a`, which is node 2 and was given once.
+/// An image with these requests, what they hold, and the folder `a`, which is node 2 and was given once.
 struct Case<'a> {
     says: &'a str,
     requests: &'a [Made<'a>],
@@ -124,7 +124,7 @@ fn image_of(alloc: Global, case: &Case) -> Result<Image, AllocError> {
     })
 }
 
-/// Fails at the first case that is judged otherwise.
+/// Fails at the first case with another verdict.
 fn judge(alloc: Global, cases: &[Case]) -> Result<(), Fail> {
     for case in cases {
         if image_of(alloc, case)?.lawful() != case.is_lawful {

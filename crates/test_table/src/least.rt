@@ -1,8 +1,8 @@
-//! How often a long run must come to each thing.
+//! How many times a long run must have each result.
 
 use crate::event::Event;
 
-/// How often each must come at least.
+/// How many times each must come at least.
 pub const LEAST: &[(Event, u64)] = &[
     (Event::Begun, 1_000),
     (Event::BusyNode, 11),
@@ -66,7 +66,7 @@ pub const LEAST: &[(Event, u64)] = &[
     (Event::Released, 21),
     (Event::FailedRelease, 21),
     (Event::RemovedHidden, 1),
-    // It comes in one of the two runs alone.
+    // It comes in only one of the two runs.
     (Event::FailedHidden, 0),
     (Event::Settled, 21),
     (Event::GivenBack, 21),

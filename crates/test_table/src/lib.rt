@@ -1,4 +1,4 @@
-//! Runs of the table that its rules foretell, step by step. The crate is of tests alone.
+//! Runs of the table, checked step by step against its rules. This crate has only tests.
 #![tactic(auto)]
 
 #[cfg(test)]

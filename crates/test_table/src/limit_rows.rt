@@ -1,4 +1,4 @@
-//! Requests that a limit refuses, at its edge.
+//! Requests that are refused because of a limit, right at the limit.
 
 use crate::story::Asks::{Move, Name, Node, Remove};
 use crate::story::Told::{Amount, Ended, Given, Go, NotGiven, Refused, Settled};
@@ -14,7 +14,7 @@ fn default_limits(rt: HostRuntime) {
     assert_eq!(rt; Limits::default(), DEFAULT);
 }
 
-/// The root and `a` are all nodes that may be.
+/// With the root and `a` there are as many nodes as there may be.
 const NODES: Story = Story {
     limits: Limits {
         nodes: 2,
@@ -41,7 +41,7 @@ fn node_limit(rt: HostRuntime) -> Result<(), Fail> {
     run(&rt, &NODES)
 }
 
-/// Each LOOKUP that goes on is promised a node where none stands, also where both are of one name.
+/// Each LOOKUP that begins is promised a node if there is none, even if two are for the same name.
 const PROMISED_NODES: Story = Story {
     limits: Limits {
         nodes: 3,
@@ -121,7 +121,7 @@ const PROMISED_POSTINGS: Story = Story {
     gathers: Sum::All(1, 2, 0, 2),
 };
 
-/// Two postings are none too many for a birth and an entry, but the entry could not be forgotten.
+/// Two postings are enough for a birth and an entry, but then the entry could not be forgotten.
 const TOO_FEW_POSTINGS: Story = Story {
     limits: Limits {
         postings: 2,
@@ -147,7 +147,7 @@ fn posting_limit(rt: HostRuntime) -> Result<(), Fail> {
     Ok(())
 }
 
-/// One request may be in flight, and it is until it is settled.
+/// One request may be in flight, and it is in flight until it is settled.
 const FLIGHTS: Story = Story {
     limits: Limits {
         flights: 1,
@@ -174,7 +174,7 @@ fn flight_limit(rt: HostRuntime) -> Result<(), Fail> {
 /// What the requests ask for, in turn.
 const NAMES: [&str; 4] = ["a", "b", "c", "d"];
 
-/// As many requests as may be in flight at once, where memory is ample: 4 births and 64 entries.
+/// As many requests at once as may be in flight, with ample memory: 4 births and 64 entries.
 fn full_table(alloc: Global) -> Result<Vec<Step<'static>>, AllocError> {
     let mut steps = Vec::new(alloc);
     for request in 0..64u64 {

@@ -1,4 +1,4 @@
-//! Paths at their greatest length, which is 4,096 bytes, with one byte for each name.
+//! Paths of the maximum length, which is 4,096 bytes, counting one more byte for each name.
 
 use crate::story::Asks::{Move, Name, Node, Remove};
 use crate::story::Told::{Given, Go, Refused};
@@ -8,7 +8,7 @@ use errno::{ENAMETOOLONG, ESTALE};
 use std::alloc::{AllocError, Global};
 use std::test::Fail;
 
-/// A name of so many bytes.
+/// A name of that many bytes.
 pub fn long_name(alloc: Global, bytes: usize) -> Result<String, AllocError> {
     let mut name = String::new(alloc);
     for _byte in 0..bytes {
@@ -22,7 +22,7 @@ pub fn first(name: &str, bytes: usize) -> &str {
     name.get(..bytes).unwrap_or("")
 }
 
-/// A LOOKUP of the name in the root, and in each folder that was found so.
+/// A LOOKUP of the name in the root, and then in each folder that was found.
 fn one_below_another(alloc: Global, name: &str) -> Result<Vec<Step<'_>>, AllocError> {
     let mut steps = Vec::new(alloc);
     for parent in 1..17u64 {
@@ -31,7 +31,7 @@ fn one_below_another(alloc: Global, name: &str) -> Result<Vec<Step<'_>>, AllocEr
     Ok(steps)
 }
 
-/// After 16 folders one below another, whose names have 255 bytes each, a path has 16 times 256 bytes, which is 4,096.
+/// Below 16 nested folders whose names have 255 bytes each, a path has 16 times 256 bytes, which is 4,096.
 const BELOW_THE_LAST: &[Step] = &[
     Step::Begin(1, Name(17, "e"), Refused(ENAMETOOLONG)),
     Step::Begin(1, Remove(17, "e"), Refused(ENAMETOOLONG)),
@@ -52,7 +52,7 @@ fn long_path(rt: HostRuntime) -> Result<(), Fail> {
     run(&rt, &story)
 }
 
-/// A name of 4,095 bytes in the root, and one of 4,093 bytes in the folder `d`. Of a move both paths are looked at.
+/// A name of 4,095 bytes in the root, and one of 4,093 bytes in the folder `d`. For a move both paths are tested.
 #[test]
 fn longest_names(rt: HostRuntime) -> Result<(), Fail> {
     let name = long_name(rt.alloc(), 4_096)?;

@@ -1,5 +1,5 @@
-//! Ten thousand calls drawn at random, of which three in four are about what is there. Each must come to what it may come
-//! to, each kind must come often, and the table keeps its law.
+//! Ten thousand random calls, of which three in four are about what exists. The result of each must be a possible one,
+//! each kind of result must come often, and the table must stay lawful.
 
 use crate::beginnings::begun;
 use crate::change::Change;
@@ -31,10 +31,12 @@ const LIMITS: Limits = Limits {
     ..DEFAULT
 };
 
-/// What the table shows when all requests have ended, all files are closed, all lookups were given back, and what was hidden is removed.
+/// The table after all requests have ended, all files were closed, all lookups were forgotten, and hidden files were
+/// removed.
 const NOTHING_LEFT: &[Step] = &[Step::Nodes(&[TOP]), Step::Requests(&[]), Step::Holds(&[])];
 
-/// A run, with the requests that are worked on, and those that have ended, by what their answers give, each by its unique number.
+/// A run, with the requests in progress, and those that have ended with what their answers give, each with its unique
+/// number.
 #[derive(Drop)]
 struct LongRun {
     draws: Draws,
@@ -44,14 +46,14 @@ struct LongRun {
     sum: Sum,
 }
 
-/// Takes out what stands under a unique number.
+/// Takes out the value with that unique number.
 fn take_out<T: Copy>(values: &mut Vec<(u64, T)>, unique: u64) -> Option<T> {
     let place = values.iter().position(|(other, _)| *other == unique)?;
     let (_, value) = values.remove(place);
     Some(value)
 }
 
-/// What the postings of all periods add up to.
+/// The totals of the postings of all periods.
 fn sum_of(image: &Image) -> Sum {
     let Totals {
         mut born,
@@ -71,7 +73,7 @@ fn sum_of(image: &Image) -> Sum {
     Sum::All(born, entries, backs, forgotten)
 }
 
-/// What an answer gives to the client that told this, after its file was opened, if one was.
+/// What the answer to this result gives to the client, after its file was opened, if one was.
 fn gains_of(told: Told, change: Change, after: &Image) -> Gains {
     let handle = match change.opened {
         0 => None,
@@ -83,7 +85,7 @@ fn gains_of(told: Told, change: Change, after: &Image) -> Gains {
     }
 }
 
-/// What the end of a period came to: of each node but the root an opening is left, and nothing else has changed.
+/// The result of ending a period: an opening is left of each node except the root, and nothing else has changed.
 fn period_ended(told: Told, before: &Image, after: &Image) -> Option<Event> {
     let Told::Closed(fewer) = told else {
         return None;
@@ -98,7 +100,7 @@ fn period_ended(told: Told, before: &Image, after: &Image) -> Option<Event> {
     }
 }
 
-/// A request that is done, from its begin to its settle.
+/// A request from its begin to its settle, with the outcome Done.
 fn done(unique: u64, asks: Asks) -> [Step; 3] {
     [
         Step::Begin(unique, asks, Told::Shown),
@@ -119,7 +121,7 @@ impl LongRun {
         })
     }
 
-    /// A call, or none where it would be about a request and there is none.
+    /// A random call, or none if it would be about a request and there is none.
     fn draw<'a>(&mut self, unique: u64, image: &'a Image) -> Option<Step<'a>> {
         match self.draws.among(11) {
             0..=3 => Some(Step::Begin(unique, self.draws.asks(image), Told::Shown)),
@@ -137,7 +139,7 @@ impl LongRun {
         }
     }
 
-    /// What a call came to that told this, whose ticket says whether it may hide, or none where it may not come to that.
+    /// The result of a call, whose ticket says whether it may hide, or none if it is not a possible one.
     fn judge(
         &mut self,
         step: &Step,
@@ -171,7 +173,7 @@ impl LongRun {
         }
     }
 
-    /// What a call told, what it came to, and the table after it.
+    /// What a call returned, its result, and the table after it.
     fn make<T: Ledgers>(
         &mut self,
         under_test: &mut TestTable<T>,
@@ -188,7 +190,7 @@ impl LongRun {
         Ok((told, event, after))
     }
 
-    /// Makes one call, the one at that place, from the table as it was before it. Gives the table after it.
+    /// Makes one call, the one with that index, given the table before it. Returns the table after it.
     fn go<T: Ledgers>(
         &mut self,
         under_test: &mut TestTable<T>,
@@ -205,7 +207,8 @@ impl LongRun {
         }
     }
 
-    /// Draws a call, the one at that place, and makes it. After each 250th a period ends. The image follows the table.
+    /// Chooses a random call, the one with that index, and makes it. After every 250 calls a period ends. The image
+    /// follows the table.
     fn turn<T: Ledgers>(
         &mut self,
         under_test: &mut TestTable<T>,
@@ -224,7 +227,7 @@ impl LongRun {
         Ok(())
     }
 
-    /// Makes the calls that are drawn. The table is lawful after each of the first, and then now and then.
+    /// Makes random calls. After each of the first ones the table is checked to be lawful, and later from time to time.
     fn turns<T: Ledgers>(&mut self, under_test: &mut TestTable<T>) -> Result<(), Fail> {
         let mut image = under_test.image()?;
         for place in 0..STEPS {
@@ -236,7 +239,7 @@ impl LongRun {
         Ok(())
     }
 
-    /// Makes these calls after the last.
+    /// Makes these calls after the others.
     fn go_all<T: Ledgers>(
         &mut self,
         under_test: &mut TestTable<T>,
@@ -249,7 +252,7 @@ impl LongRun {
         Ok(())
     }
 
-    /// Ends all requests, gives every lookup back, and releases each file that is open.
+    /// Ends all requests, forgets every lookup, and releases each open file.
     fn last_steps(&self, alloc: Global, image: &Image) -> Result<Vec<Step<'static>>, AllocError> {
         let mut steps = Vec::new(alloc);
         for (unique, _) in &self.working {
@@ -269,7 +272,7 @@ impl LongRun {
         Ok(steps)
     }
 
-    /// Ends all that was begun, and closes all files.
+    /// Ends everything that was begun, and closes all files.
     fn end_all<T: Ledgers>(&mut self, under_test: &mut TestTable<T>) -> Result<(), Fail> {
         let steps = self.last_steps(under_test.alloc, &under_test.image()?)?;
         self.go_all(under_test, steps.as_slice())
@@ -298,7 +301,7 @@ impl Play for LongRun {
     }
 }
 
-/// A run from that seed. The shares add up to the postings, and all entries came back.
+/// A run with that seed. The shares add up to the postings, and all entries were taken back.
 fn run_from<R: RandomSource + AllocGlobal>(rt: &R, seed: u64) -> Result<(), Fail> {
     let mut run = LongRun::new(rt.alloc(), seed)?;
     let sum = play_new(rt, LIMITS, &mut run)?;

@@ -1,10 +1,10 @@
-//! What an image shows of a node, of a name, or of a handle.
+//! Looking up a node, a name or a handle in an image.
 
 use table::{Access, OpenFile};
 use table_image::Image;
 use tree::{Node, Place};
 
-/// The node that bears the number.
+/// The node with this number.
 pub fn node_of(image: &Image, number: u64) -> Option<&Node> {
     image
         .nodes
@@ -13,7 +13,7 @@ pub fn node_of(image: &Image, number: u64) -> Option<&Node> {
         .find(|node| node.number == number)
 }
 
-/// The node that bears the same number in the same generation.
+/// The node with the same number and generation.
 pub fn same_in<'a>(image: &'a Image, node: &Node) -> Option<&'a Node> {
     let same = node_of(image, node.number)?;
     if same.generation == node.generation {
@@ -23,7 +23,7 @@ pub fn same_in<'a>(image: &'a Image, node: &Node) -> Option<&'a Node> {
     }
 }
 
-/// The count of the node that bears the number, or 0.
+/// The count of the node with this number, or 0.
 pub fn count_of(image: &Image, number: u64) -> u64 {
     match node_of(image, number) {
         Some(node) => node.count,
@@ -31,7 +31,7 @@ pub fn count_of(image: &Image, number: u64) -> u64 {
     }
 }
 
-/// Whether the node that bears the number has a hidden mark.
+/// Whether the node with this number has a hidden mark.
 pub fn is_hidden(image: &Image, number: u64) -> bool {
     match node_of(image, number) {
         Some(node) => node.hidden,
@@ -39,7 +39,7 @@ pub fn is_hidden(image: &Image, number: u64) -> bool {
     }
 }
 
-/// Whether the node that bears the number has no name any more.
+/// Whether the node with this number has no name any more.
 pub fn is_cut(image: &Image, number: u64) -> bool {
     match node_of(image, number) {
         Some(node) => matches!(&node.place, Place::Cut),
@@ -47,7 +47,7 @@ pub fn is_cut(image: &Image, number: u64) -> bool {
     }
 }
 
-/// Where a node stands that is named: its parent and its name.
+/// The place of a node with a name: its parent and its name.
 pub fn place_of(node: &Node) -> Option<(u64, &str)> {
     match &node.place {
         Place::Named(key) => Some((key.parent, key.name.as_str())),
@@ -55,7 +55,7 @@ pub fn place_of(node: &Node) -> Option<(u64, &str)> {
     }
 }
 
-/// The node that stands at a name under a parent.
+/// The node with this name under this parent.
 pub fn node_at<'a>(image: &'a Image, parent: u64, name: &str) -> Option<&'a Node> {
     image
         .nodes
@@ -70,7 +70,7 @@ pub fn openings(image: &Image, number: u64) -> usize {
     files.filter(|filed| filed.file.number == number).count()
 }
 
-/// Whether a node stands at the name that has an open file.
+/// Whether the name has a node with an open file.
 pub fn is_open_at(image: &Image, parent: u64, name: &str) -> bool {
     match node_at(image, parent, name) {
         Some(node) => openings(image, node.number) > 0,
@@ -78,7 +78,7 @@ pub fn is_open_at(image: &Image, parent: u64, name: &str) -> bool {
     }
 }
 
-/// The open file under a handle.
+/// The file open under a handle.
 pub fn file_of(image: &Image, handle: u64) -> Option<OpenFile> {
     let filed = image
         .files
@@ -96,7 +96,7 @@ pub fn is_handle_of(image: &Image, number: u64, handle: u64) -> bool {
     }
 }
 
-/// Whether the node may be read by the handle.
+/// Whether the node may be read through the handle.
 pub fn may_read(image: &Image, number: u64, handle: u64) -> bool {
     match file_of(image, handle) {
         Some(file) => file.number == number && file.access != Access::Writing,

@@ -1,4 +1,4 @@
-//! Names looked up, forgotten, and given back.
+//! Names that are looked up, forgotten, and given back.
 
 use crate::story::Asks::Name;
 use crate::story::Posted::{Back, Born, Entry, Forget};
@@ -27,7 +27,7 @@ fn fresh_lookup(rt: HostRuntime) -> Result<(), Fail> {
     run(&rt, &FRESH)
 }
 
-/// A FORGET of more than the count takes the count: the node is gone, and its number is born again.
+/// A FORGET of more than the count takes the whole count: the node is dropped, and its number is born again.
 const ABOVE_COUNT: Story = Story {
     limits: DEFAULT,
     steps: &[
@@ -47,7 +47,7 @@ fn forget_above_count(rt: HostRuntime) -> Result<(), Fail> {
     run(&rt, &ABOVE_COUNT)
 }
 
-/// What is forgotten of an unknown number, of the root and of nothing is nothing.
+/// Forgetting lookups of an unknown number, of the root, or no lookups, takes nothing.
 const IN_PIECES: Story = Story {
     limits: DEFAULT,
     steps: &[
@@ -99,8 +99,8 @@ fn untaken_lookup(rt: HostRuntime) -> Result<(), Fail> {
     run(&rt, &UNTAKEN)
 }
 
-/// The entry is forgotten before its reply is found untaken: the settle posts nothing. Until then the request pins node 2,
-/// so that its number goes to nobody else.
+/// The entry is forgotten before its reply is found to be untaken: the settle posts nothing. Until then the request
+/// pins node 2, so that its number is not used again.
 const FORGOTTEN_FIRST: Story = Story {
     limits: DEFAULT,
     steps: &[

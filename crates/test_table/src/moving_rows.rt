@@ -1,4 +1,4 @@
-//! Names that are moved.
+//! Moves of names.
 
 use crate::story::Asks::{Move, Name, Node};
 use crate::story::Posted::{Born, Entry, Forget};
@@ -17,7 +17,7 @@ const KNOWN: &[Living] = &[
     Living(3, 0, At(2, "x"), 1),
 ];
 
-/// A folder is moved with what is in it. Meanwhile both names are held, though no node stands at the new one.
+/// A folder is moved with what is in it. Meanwhile both names are held, although the new one has no node.
 const FOLDER: Story = Story {
     limits: DEFAULT,
     steps: &[
@@ -52,7 +52,7 @@ fn moved_folder(rt: HostRuntime) -> Result<(), Fail> {
     run(&rt, &FOLDER)
 }
 
-/// A path is not moved below itself, nor onto a path above it, and onto itself without a change.
+/// A path cannot be moved below itself, nor onto a path above it; moving it onto itself changes nothing.
 const OWN_FRONTS: Story = Story {
     limits: DEFAULT,
     steps: &[
@@ -89,7 +89,7 @@ fn moves_onto_own_prefixes(rt: HostRuntime) -> Result<(), Fail> {
     run(&rt, &OWN_FRONTS)
 }
 
-/// A file is moved onto a folder's name: the folder is cut with what is in it.
+/// A file is moved to the name of a folder: the folder is cut with what is in it.
 const ONTO_A_FOLDER: Story = Story {
     limits: DEFAULT,
     steps: &[
@@ -129,7 +129,7 @@ fn moved_onto_a_folder(rt: HostRuntime) -> Result<(), Fail> {
     run(&rt, &ONTO_A_FOLDER)
 }
 
-/// Where no node stands at the old name, what stands at the new one is cut alone, and where nothing keeps it, it goes.
+/// If the old name has no node, only what is at the new one is cut, and it is dropped if nothing keeps it alive.
 const FROM_NOTHING: Story = Story {
     limits: DEFAULT,
     steps: &[
@@ -163,7 +163,7 @@ fn moved_from_nothing(rt: HostRuntime) -> Result<(), Fail> {
     run(&rt, &FROM_NOTHING)
 }
 
-/// A move that failed changes nothing, and holds nothing any more.
+/// A move that failed changes nothing, and afterwards holds nothing.
 const FAILED: Story = Story {
     limits: DEFAULT,
     steps: &[
@@ -180,7 +180,7 @@ const FAILED: Story = Story {
     gathers: Sum::All(2, 2, 0, 0),
 };
 
-/// An outcome that is none of a move changes nothing.
+/// An outcome that does not fit a move changes nothing.
 const MISFIT: Story = Story {
     limits: DEFAULT,
     steps: &[

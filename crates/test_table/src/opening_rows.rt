@@ -1,4 +1,4 @@
-//! Files that are opened, and what their handles are good for.
+//! Opening files, and what their handles may be used for.
 
 use crate::story::Asks::{Create, Open, Page, Read};
 use crate::story::Told::{Amount, Ended, Gave, Given, Go, NotGiven, Refused, Settled};
@@ -8,7 +8,7 @@ use errno::{EBADF, ENFILE};
 use std::test::Fail;
 use table::Limits;
 
-/// A file is made, and the reply is not taken: its handle is closed, and the entry goes back.
+/// A file is created, and the reply is not taken: its handle is closed, and the entry is given back.
 const UNTAKEN: Story = Story {
     limits: DEFAULT,
     steps: &[
@@ -33,7 +33,7 @@ fn untaken_create(rt: HostRuntime) -> Result<(), Fail> {
     run(&rt, &UNTAKEN)
 }
 
-/// One file may be open: it is that of `a`, which lives by it alone once its lookup is forgotten.
+/// One file may be open: that of `a`, whose node is kept alive only by it after its lookup is forgotten.
 const ONE_FILE: Story = Story {
     limits: Limits {
         files: 1,
@@ -68,7 +68,7 @@ fn one_open_file(rt: HostRuntime) -> Result<(), Fail> {
     run(&rt, &ONE_FILE)
 }
 
-/// No outcome that does not fit opens a file: an entry or findings of an open, and findings or a bare end of a create.
+/// No outcome that does not fit opens a file: an entry or findings for an OPEN, and findings or Done for a CREATE.
 const MISFITS: Story = Story {
     limits: DEFAULT,
     steps: &[

@@ -1,5 +1,5 @@
-//! Which test of a begin comes first: the numbers, long paths, moves onto own prefixes, names in the way, room, and the
-//! requests in flight. Most steps fail two tests, one right after the other.
+//! The order of a begin's tests: the nodes, long paths, moves onto own prefixes, conflicts, room, and the requests in
+//! flight. Most steps fail two tests that directly follow each other.
 
 use crate::long_rows::long_name;
 use crate::story::Asks::{Move, Name, Node, Remove};
@@ -18,7 +18,7 @@ fn error_numbers(rt: HostRuntime) {
     );
 }
 
-/// Numbers before names in the way before the requests in flight.
+/// Nodes come before conflicts, and these before the requests in flight.
 const BUSY_BEFORE_FLIGHTS: Story = Story {
     limits: Limits {
         flights: 1,
@@ -45,7 +45,7 @@ fn order_of_tests(rt: HostRuntime) -> Result<(), Fail> {
     run(&rt, &BUSY_BEFORE_FLIGHTS)
 }
 
-/// Where no node may be added, a name that is held is told of before that.
+/// A conflict is reported before the limit on nodes.
 const BUSY_BEFORE_ROOM: Story = Story {
     limits: Limits {
         nodes: 1,
@@ -66,7 +66,7 @@ fn busy_before_nodes(rt: HostRuntime) -> Result<(), Fail> {
     run(&rt, &BUSY_BEFORE_ROOM)
 }
 
-/// Where nodes and requests in flight would both be passed, the nodes decide.
+/// If both the limits on nodes and on requests in flight would be exceeded, that on nodes is reported.
 const NODES_BEFORE_FLIGHTS: Story = Story {
     limits: Limits {
         nodes: 2,
@@ -82,7 +82,7 @@ const NODES_BEFORE_FLIGHTS: Story = Story {
     gathers: Sum::All(0, 0, 0, 0),
 };
 
-/// So do the postings.
+/// The same for the limit on postings.
 const POSTINGS_BEFORE_FLIGHTS: Story = Story {
     limits: Limits {
         postings: 3,
@@ -105,7 +105,7 @@ fn nodes_before_flights(rt: HostRuntime) -> Result<(), Fail> {
     Ok(())
 }
 
-/// A request of one name: its number, its path, and then a name in the way.
+/// A request for one name: its node, its path, and then a conflict.
 #[test]
 fn order_of_tests_of_a_name(rt: HostRuntime) -> Result<(), Fail> {
     let name = long_name(rt.alloc(), 4_096)?;
@@ -129,7 +129,7 @@ fn order_of_tests_of_a_name(rt: HostRuntime) -> Result<(), Fail> {
     run(&rt, &story)
 }
 
-/// A move: its numbers, its paths, whether one is a prefix of the other, and then a name in the way.
+/// A move: its nodes, its paths, whether one is a prefix of the other, and then a conflict.
 #[test]
 fn order_of_tests_of_a_move(rt: HostRuntime) -> Result<(), Fail> {
     let name = long_name(rt.alloc(), 4_096)?;

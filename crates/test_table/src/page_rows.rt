@@ -1,4 +1,4 @@
-//! Names of a folder in one request.
+//! Several names of a folder in one request.
 
 use crate::story::Asks::{Move, Name, Node, Page, Remove};
 use crate::story::Posted::{Back, Born, Entry, Forget};
@@ -11,7 +11,7 @@ use std::test::Fail;
 use table::Limits;
 use table_image::ImageStage::{Answered, Working};
 
-/// A page holds none of its names, so that `a` is removed meanwhile. It is given nothing while it is held alone.
+/// A page holds none of its names, so `a` can be removed meanwhile. It gets no entry while it is held exclusively.
 const REMOVED_MEANWHILE: Story = Story {
     limits: DEFAULT,
     steps: &[
@@ -36,7 +36,7 @@ fn name_removed_meanwhile(rt: HostRuntime) -> Result<(), Fail> {
     run(&rt, &REMOVED_MEANWHILE)
 }
 
-/// Once the removal has ended nobody holds the name any more, and an entry is given, of a new node.
+/// After the removal has ended, no request holds the name any more, and an entry is given for a new node.
 const REMOVED_BEFORE: Story = Story {
     limits: DEFAULT,
     steps: &[
@@ -55,7 +55,7 @@ fn name_removed_before(rt: HostRuntime) -> Result<(), Fail> {
     run(&rt, &REMOVED_BEFORE)
 }
 
-/// A move holds both of its names. What is below a name that is held alone stands in another folder.
+/// A move holds both of its names. What is below a name that is held exclusively is in another folder.
 const MOVED_MEANWHILE: Story = Story {
     limits: DEFAULT,
     steps: &[
@@ -76,7 +76,7 @@ fn names_moved_meanwhile(rt: HostRuntime) -> Result<(), Fail> {
     run(&rt, &MOVED_MEANWHILE)
 }
 
-/// Nodes that stand at the names are pinned, and entered again. A name that was not found is given nothing.
+/// Nodes with the names are pinned, and get another entry. A name that was not found gets none.
 const KNOWN: Story = Story {
     limits: DEFAULT,
     steps: &[
@@ -105,7 +105,7 @@ fn known_names(rt: HostRuntime) -> Result<(), Fail> {
     run(&rt, &KNOWN)
 }
 
-/// Postings stand in the order of the names, and a name that stands twice is entered twice.
+/// Postings are in the order of the names, and a name that comes twice gets two entries.
 const IN_ORDER: Story = Story {
     limits: DEFAULT,
     steps: &[
@@ -128,7 +128,7 @@ fn names_in_order(rt: HostRuntime) -> Result<(), Fail> {
     run(&rt, &IN_ORDER)
 }
 
-/// Each entry of a page that was not taken comes back, in order, if its count is above 0.
+/// Each entry of a page that was not taken is given back, in order, if its count is above 0.
 const UNTAKEN: Story = Story {
     limits: DEFAULT,
     steps: &[
@@ -158,7 +158,7 @@ fn untaken_page(rt: HostRuntime) -> Result<(), Fail> {
     run(&rt, &UNTAKEN)
 }
 
-/// A page shares the path of its folder, with its prefixes.
+/// A page shares the path of its folder and its prefixes.
 const HELD: Story = Story {
     limits: DEFAULT,
     steps: &[
@@ -186,7 +186,8 @@ fn folder_is_held(rt: HostRuntime) -> Result<(), Fail> {
     run(&rt, &HELD)
 }
 
-/// An outcome that is none of a page, or is not about as many names, acts as a failure; a page's is none of another request.
+/// An outcome that does not fit a page, or is not about as many names, acts as a failure; a page's outcome does not fit
+/// another request.
 const MISFIT: Story = Story {
     limits: DEFAULT,
     steps: &[
@@ -217,7 +218,7 @@ fn misfit_pages(rt: HostRuntime) -> Result<(), Fail> {
     run(&rt, &MISFIT)
 }
 
-/// A page without names gives nothing, on a folder that lives.
+/// A page without names gives nothing, on a living folder.
 const EMPTY: Story = Story {
     limits: DEFAULT,
     steps: &[
@@ -235,7 +236,7 @@ fn empty_page(rt: HostRuntime) -> Result<(), Fail> {
     run(&rt, &EMPTY)
 }
 
-/// The ticket of another table ends the page that bears its id, and its own is lost then.
+/// The ticket of another table ends the page with its id, and the page's own ticket is then lost.
 const STRANGER: Story = Story {
     limits: DEFAULT,
     steps: &[
@@ -256,7 +257,7 @@ fn lost_page(rt: HostRuntime) -> Result<(), Fail> {
     run(&rt, &STRANGER)
 }
 
-/// A page is promised a node for each of its names, also where one stands.
+/// A page is promised a node for each of its names, even for one with a node.
 const NODES: Story = Story {
     limits: Limits {
         nodes: 4,
@@ -280,7 +281,7 @@ fn nodes_promised_to_pages(rt: HostRuntime) -> Result<(), Fail> {
     run(&rt, &NODES)
 }
 
-/// And three postings for each.
+/// And three postings for each name.
 const POSTINGS: Story = Story {
     limits: Limits {
         postings: 9,

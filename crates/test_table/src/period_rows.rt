@@ -10,7 +10,8 @@ use errno::ENFILE;
 use std::test::Fail;
 use table::Limits;
 
-/// On an opened table nothing is closed. A number whose nodes are all gone is born again after a closing as before one.
+/// In a new table nothing is closed. A number whose node was dropped is born again after a period has ended, just as
+/// before.
 const GONE: Story = Story {
     limits: DEFAULT,
     steps: &[
@@ -33,7 +34,7 @@ fn births_are_kept(rt: HostRuntime) -> Result<(), Fail> {
     run(&rt, &GONE)
 }
 
-/// With room for six postings a name can be looked up more often, as the periods end.
+/// With room for six postings a name can be looked up more often, since periods end.
 const SIX: Story = Story {
     limits: Limits {
         postings: 6,
@@ -61,8 +62,8 @@ fn room_comes_back(rt: HostRuntime) -> Result<(), Fail> {
     run(&rt, &SIX)
 }
 
-/// A node that lives by a pin alone is in the next period with the count 0. Two nodes come by rising number, whatever their
-/// order of birth.
+/// A node that is kept alive only by a pin is in the next period with count 0. Two nodes are listed by rising number,
+/// whatever the order of their births.
 const UNCOUNTED: Story = Story {
     limits: DEFAULT,
     steps: &[

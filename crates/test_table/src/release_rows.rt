@@ -1,4 +1,4 @@
-//! Files that are closed: when the handle goes, and what its node asks for meanwhile.
+//! Closing files: when the handle is closed, and what its node reserves meanwhile.
 
 use crate::story::Asks::{Name, Open, Read, Release, Remove, Unlink};
 use crate::story::Spot::{At, Cut, Hidden};
@@ -10,8 +10,8 @@ use std::test::Fail;
 use table::Limits;
 use table_image::ImageStage::Working;
 
-/// One file may be open. Its handle is closed when the release begins, so that another may be opened then, under the next handle; and it stays closed whatever
-/// the release comes to.
+/// One file may be open. Its handle is closed when the release begins, so that another file may then be opened, under
+/// the next handle; and it stays closed whatever the outcome of the release.
 const AT_ONCE: Story = Story {
     limits: Limits {
         files: 1,
@@ -50,8 +50,8 @@ fn released_at_once(rt: HostRuntime) -> Result<(), Fail> {
     run(&rt, &AT_ONCE)
 }
 
-/// A name is removed while two files of its node are open. A release waits for the removal. Once the node is cut a release holds, pins and tells
-/// nothing, and that of the last file drops the node at once.
+/// A name is removed while two files of its node are open. A release waits for the removal. After the node is cut, a
+/// release holds, pins and has nothing, and that of the last file drops the node at once.
 const OF_A_CUT_NODE: Story = Story {
     limits: DEFAULT,
     steps: &[
@@ -96,8 +96,9 @@ fn release_of_a_cut_node(rt: HostRuntime) -> Result<(), Fail> {
     run(&rt, &OF_A_CUT_NODE)
 }
 
-/// Two files of `d/a` are open when it is hidden. The release of the first is as any other. That of the second tells that it is the last and holds the hidden name
-/// alone, and where it is done the node is cut: it goes when the request is settled, and its folder, which nothing keeps any more, at once.
+/// Two files of `d/a` are open when it is hidden. The release of the first is like any other. That of the second says
+/// that it is the last, and holds the hidden name exclusively. When it is done the node is cut: the node is dropped
+/// when the request is settled, and its folder, which nothing keeps alive any more, at once.
 const OF_A_HIDDEN_FILE: Story = Story {
     limits: DEFAULT,
     steps: &[
@@ -151,7 +152,7 @@ fn last_release_of_a_hidden_file(rt: HostRuntime) -> Result<(), Fail> {
     run(&rt, &OF_A_HIDDEN_FILE)
 }
 
-/// A last release that failed leaves the hidden file, with its mark.
+/// A release of the last handle that failed leaves the hidden file, with its mark.
 const OF_A_FILE_THAT_STAYS: Story = Story {
     limits: DEFAULT,
     steps: &[

@@ -1,4 +1,4 @@
-//! Names that are removed.
+//! Removals of names.
 
 use crate::story::Asks::{Name, Node, Remove};
 use crate::story::Posted::{Born, Entry, Forget};
@@ -17,7 +17,7 @@ const KNOWN: &[Living] = &[
     Living(3, 0, At(2, "x"), 1),
 ];
 
-/// A removed folder is cut with what is in it, and its nodes live until they are forgotten.
+/// A removed folder is cut with what is in it, and its nodes stay alive until they are forgotten.
 const FOLDER: Story = Story {
     limits: DEFAULT,
     steps: &[
@@ -61,7 +61,7 @@ fn removed_folder(rt: HostRuntime) -> Result<(), Fail> {
     run(&rt, &FOLDER)
 }
 
-/// Where no node stands at the name, its removal changes none.
+/// If the name has no node, its removal changes none.
 const OF_NOTHING: Story = Story {
     limits: DEFAULT,
     steps: &[
@@ -102,7 +102,7 @@ const FAILED: Story = Story {
     gathers: Sum::All(2, 3, 0, 0),
 };
 
-/// An outcome that is none of a removal removes nothing.
+/// An outcome that does not fit a removal removes nothing.
 const MISFIT: Story = Story {
     limits: DEFAULT,
     steps: &[
@@ -121,7 +121,7 @@ const MISFIT: Story = Story {
     gathers: Sum::All(2, 3, 0, 0),
 };
 
-/// A removal that has no candidates hides nothing, whatever it is told, and neither does a look at a node.
+/// A removal without candidates hides nothing, whatever its outcome, and neither does a request for a node.
 const UNHIDDEN: Story = Story {
     limits: DEFAULT,
     steps: &[
@@ -159,7 +159,7 @@ fn removal_misfit(rt: HostRuntime) -> Result<(), Fail> {
     run(&rt, &MISFIT)
 }
 
-/// The removal that cuts node 2 keeps it until it is settled.
+/// The removal that cuts node 2 keeps it alive until it is settled.
 const PINNED_BY_REMOVAL: Story = Story {
     limits: DEFAULT,
     steps: &[
@@ -175,7 +175,7 @@ const PINNED_BY_REMOVAL: Story = Story {
     gathers: Sum::All(1, 1, 0, 1),
 };
 
-/// Its count keeps node 2 when its removal is settled.
+/// Its count keeps node 2 alive after its removal is settled.
 const KEPT_BY_COUNT: Story = Story {
     limits: DEFAULT,
     steps: &[
@@ -190,7 +190,7 @@ const KEPT_BY_COUNT: Story = Story {
     gathers: Sum::All(1, 1, 0, 1),
 };
 
-/// A request for node 2 keeps it when it was cut and forgotten, and its removal settled.
+/// A request for node 2 keeps it alive when it was cut and forgotten, and its removal settled.
 const PINNED_BY_NODE: Story = Story {
     limits: DEFAULT,
     steps: &[

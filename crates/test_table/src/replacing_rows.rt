@@ -7,7 +7,7 @@ use crate::teller::run;
 use errno::{EINVAL, ENOTEMPTY, ESTALE};
 use std::test::Fail;
 
-/// The name `e`, then `a`, and those that the file of `a`, node 2, may be hidden under first.
+/// The name `e`, then `a`, and the first candidates for the file of `a`, node 2.
 const PATHS: &[&str] = &[
     "e",
     "a",
@@ -23,7 +23,7 @@ const PATHS: &[&str] = &[
     ".fuse_hidden0000000200000009",
 ];
 
-/// The name `e`, then `d/x`, and those beside it that the file of `d/x`, node 3, may be hidden under first.
+/// The name `e`, then `d/x`, and the first candidates in its folder for the file of `d/x`, node 3.
 const DEEP_PATHS: &[&str] = &[
     "e",
     "d/x",
@@ -39,8 +39,9 @@ const DEEP_PATHS: &[&str] = &[
     "d/.fuse_hidden0000000300000009",
 ];
 
-/// The files of `a` and of `e` are open, and `e` is moved to `a`: the one that was `a` is hidden under the first candidate and is
-/// still open, and so is the other. Ten names were taken: those of the next file that is hidden have the counters from ten on.
+/// The files of `a` and of `e` are open, and `e` is moved to `a`: what was `a` is hidden under the first candidate and
+/// is still open, and so is the other file. Ten names are used up: those of the next file to be hidden have the
+/// counters from ten on.
 const REPLACED: Story = Story {
     limits: DEFAULT,
     steps: &[
@@ -80,7 +81,7 @@ const REPLACED: Story = Story {
     gathers: Sum::All(3, 3, 0, 1),
 };
 
-/// The file that is replaced was hidden, but the move failed: `e` is where it was, and nothing is named `a`.
+/// The file to be replaced was hidden, but the move failed: `e` is where it was, and nothing has the name `a`.
 const FAILED_AFTER: Story = Story {
     limits: DEFAULT,
     steps: &[
@@ -103,7 +104,8 @@ const FAILED_AFTER: Story = Story {
     gathers: Sum::All(3, 3, 0, 0),
 };
 
-/// What does not fit changes nothing, and a move that was done without a hide cuts what stood at its target, whose file stays open.
+/// An outcome that does not fit changes nothing, and a move that was done without hiding cuts what was at its target,
+/// whose file stays open.
 const UNHIDDEN: Story = Story {
     limits: DEFAULT,
     steps: &[
@@ -136,8 +138,8 @@ const UNHIDDEN: Story = Story {
     gathers: Sum::All(2, 2, 0, 0),
 };
 
-/// A move of an open file to itself hides nothing, and neither does one to a name whose file is not open: the first file that is
-/// hidden then has the names from nought on.
+/// A move of an open file to itself hides nothing, and neither does one to a name whose file is not open: the
+/// candidates for the first file that is then hidden have the counters from zero on.
 const NOTHING_TO_HIDE: Story = Story {
     limits: DEFAULT,
     steps: &[
@@ -167,7 +169,7 @@ const NOTHING_TO_HIDE: Story = Story {
     gathers: Sum::All(2, 2, 0, 0),
 };
 
-/// The candidates are in the folder of the target, and held alone there; what else stands in it is free.
+/// The candidates are in the folder of the target, and held exclusively there; other names in it are free.
 const ACROSS_FOLDERS: Story = Story {
     limits: DEFAULT,
     steps: &[
@@ -195,7 +197,7 @@ const ACROSS_FOLDERS: Story = Story {
     gathers: Sum::All(3, 3, 0, 0),
 };
 
-/// Names are taken by a request that goes on alone: not by one that is in the way of another, nor by one that is refused.
+/// Only a request that begins uses up names: not one that conflicts with another, nor one that is refused.
 const COUNTED: Story = Story {
     limits: DEFAULT,
     steps: &[

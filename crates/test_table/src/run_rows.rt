@@ -1,4 +1,4 @@
-//! Runs: calls on what is pending, where a ticket and an answer are named by their place.
+//! Runs: calls on what is pending, where a ticket or an answer is given by its index.
 
 use crate::story::Asks::{Name, Page, Remove};
 use crate::story::Posted::{Back, Born, Entry, Forget};
@@ -26,7 +26,8 @@ enum Made<'a> {
     ClosePeriod,
 }
 
-/// `b` is given first, then `c` is removed, then `a` is given, and last a page of `a` and `d`. Where nothing is pending, nothing is done.
+/// `b` is given first, then `c` is removed, then `a` is given, and last a page with `a` and `d`. If nothing is pending,
+/// nothing is done.
 const CALLS: &[(Made, Told)] = &[
     (Made::Begin(1, Name(ROOT, "a")), Go),
     (Made::Begin(2, Name(ROOT, "b")), Go),
@@ -47,7 +48,7 @@ const CALLS: &[(Made, Told)] = &[
     (Made::Settle(1, Reply::Taken), Settled(2)),
 ];
 
-/// What the table shows after them. One answer is pending, that of the first request.
+/// The table after these calls. One answer is pending, that of the first request.
 const AFTER: &[Step] = &[
     Step::Nodes(&[
         TOP,
@@ -87,7 +88,7 @@ fn call_of(alloc: Global, made: Made) -> Result<TableCall, AllocError> {
     })
 }
 
-/// What a call told. Its answer is the last one pending.
+/// The result of a call. Its answer is the last one pending.
 fn told_of(told: CallTold, pending: &Pending) -> Told {
     match told {
         CallTold::Nothing => Told::Nothing,
@@ -104,7 +105,7 @@ fn told_of(told: CallTold, pending: &Pending) -> Told {
     }
 }
 
-/// Whether a call of a run told that, as far as it is told without its answer.
+/// Whether the result of a call in a run is this, apart from its answer.
 fn agrees(told: &CallTold, said: Told) -> bool {
     match (told, said) {
         (CallTold::Nothing, Told::Nothing)
@@ -127,7 +128,7 @@ fn all_calls(alloc: Global) -> Result<Vec<TableCall>, AllocError> {
     Ok(calls)
 }
 
-/// The calls of a run told what they must.
+/// Checks that the results of a run are the expected ones.
 fn expect_all(told: &[CallTold]) -> Result<(), Fail> {
     if told.len() != CALLS.len() {
         return Err(Fail::from(("calls told", told.len())));
@@ -149,7 +150,7 @@ impl<T: Ledgers> TestTable<T> {
         expect_all(told.as_slice())
     }
 
-    /// Makes one call after another. Fails at the first that tells something else.
+    /// Makes one call after another. Fails at the first unexpected result.
     fn make_each(&mut self, pending: &mut Pending) -> Result<(), Fail> {
         for (place, (made, said)) in CALLS.iter().enumerate() {
             let call = call_of(self.alloc, *made)?;
@@ -162,7 +163,7 @@ impl<T: Ledgers> TestTable<T> {
         Ok(())
     }
 
-    /// Ends what is worked on without an entry, and gives the answers up.
+    /// Ends what is in progress without an entry, and gives up the answers.
     fn give_up(&mut self, pending: Pending) {
         let (mut tickets, mut answers) = pending.into_parts();
         while let Some(Started { ticket, want: _ }) = tickets.pop() {
@@ -178,7 +179,7 @@ impl<T: Ledgers> TestTable<T> {
     }
 }
 
-/// The calls, in one run or one after another.
+/// Makes the calls, in one run or one after another.
 #[derive(Drop)]
 struct Calls {
     at_once: bool,

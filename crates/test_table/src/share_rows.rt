@@ -1,4 +1,4 @@
-//! What each worker posted, and the sum of it.
+//! What each worker posted, and the sum.
 
 use crate::story::Told::{Amount, Given};
 use crate::story::{DEFAULT, ROOT, Step, Story, Sum};
@@ -19,7 +19,7 @@ const BOTH: Story = Story {
     gathers: Sum::All(1, 2, 0, 1),
 };
 
-/// The same, and then the second worker gives its share up.
+/// The same, but then the second worker gives up its share.
 const FIRST_ALONE: Story = Story {
     limits: DEFAULT,
     steps: &[

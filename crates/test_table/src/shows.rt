@@ -1,4 +1,4 @@
-//! Whether a table shows what a story says.
+//! Checking that a table is as a story says.
 
 use crate::story::{Flying, Holding, Living, Posted, Spot};
 use ledger::Posting;
@@ -8,7 +8,7 @@ use table::{Answered, Ticket};
 use table_image::{Image, Record};
 use tree::{Node, Place};
 
-/// The path of these names, with a `/` between them. The root's is empty.
+/// The path of these names, separated by `/`. The root's path is empty.
 pub fn path_of(alloc: Global, text: &str) -> Result<Path, AllocError> {
     let mut names = Vec::new(alloc);
     if text.is_empty() {
@@ -68,7 +68,7 @@ pub fn shows_nodes(image: &Image, said: &[Living]) -> bool {
     nodes.len() == said.len()
 }
 
-/// Whether these are the postings, in their order.
+/// Whether these are the postings, in this order.
 pub fn shows_ledger(image: &Image, said: &[Posted]) -> bool {
     let postings = image.postings.as_slice();
     for (posting, posted) in postings.iter().zip(said) {
@@ -118,7 +118,7 @@ pub fn shows_holds(alloc: Global, image: &Image, said: &[Holding]) -> Result<boo
     Ok(holds.len() == said.len())
 }
 
-/// Whether these are the paths, in their order.
+/// Whether these are the paths, in this order.
 pub fn are_paths(alloc: Global, paths: &[Path], said: &[&str]) -> Result<bool, AllocError> {
     for (path, text) in paths.iter().zip(said) {
         if !path.is(&path_of(alloc, text)?) {
@@ -128,7 +128,8 @@ pub fn are_paths(alloc: Global, paths: &[Path], said: &[&str]) -> Result<bool, A
     Ok(paths.len() == said.len())
 }
 
-/// Whether these are the paths of a ticket. It tells of a move to the same path, and of nothing else, that it is one.
+/// Whether these are the paths of a ticket. The ticket must also say of a move to the same path, and only of that, that
+/// it is one.
 pub fn shows_paths(alloc: Global, ticket: &Ticket, said: &[&str]) -> Result<bool, AllocError> {
     if !are_paths(alloc, ticket.paths(), said)? {
         return Ok(false);
@@ -139,7 +140,7 @@ pub fn shows_paths(alloc: Global, ticket: &Ticket, said: &[&str]) -> Result<bool
     })
 }
 
-/// Whether an answer lists these nodes, name by name.
+/// Whether an answer has these nodes, name by name.
 pub fn lists(answered: &Answered, said: &[Option<(u64, u64)>]) -> bool {
     let given = answered.given();
     for (given, node) in given.iter().zip(said) {

@@ -1,4 +1,4 @@
-//! Stories: the calls of a table, what each must tell, and what the table must show between them.
+//! Stories: the calls on a table, the expected result of each, and what the table must be like in between.
 
 use ledger::Totals;
 use table::{Counts, Limits};
@@ -7,7 +7,7 @@ use table_image::ImageStage;
 /// The number of the root.
 pub const ROOT: u64 = 1;
 
-/// The limits that hold where a story is not about them.
+/// The limits for stories that are not about limits.
 pub const DEFAULT: Limits = Limits {
     nodes: 65_536,
     postings: 1_048_576,
@@ -16,7 +16,7 @@ pub const DEFAULT: Limits = Limits {
     files: 4_096,
 };
 
-/// What is asked of a new table, and what its two shares add up to at the end.
+/// Steps for a new table, and the totals of its two shares at the end.
 #[derive(Clone, Copy)]
 pub struct Story<'a> {
     pub limits: Limits,
@@ -24,12 +24,12 @@ pub struct Story<'a> {
     pub gathers: Sum,
 }
 
-/// What the shares of a table add up to.
+/// The totals of a table's shares.
 #[derive(Clone, Copy, Debug, PartialEq, Eq)]
 pub enum Sum {
-    /// Births, entries, entries that came back, and lookups that were forgotten.
+    /// Births, entries, entries that were given back, and lookups that were forgotten.
     All(u64, u64, u64, u64),
-    /// A share was left.
+    /// A share was given up.
     ShareMissing,
 }
 
@@ -39,80 +39,80 @@ impl From<Totals> for Sum {
     }
 }
 
-/// What a request is for, with its names spelt.
+/// What a request is for, with its names as text.
 #[derive(Clone, Copy)]
 pub enum Asks<'a> {
     /// A node by its number.
     Node(u64),
     /// A name under a parent.
     Name(u64, &'a str),
-    /// The removal of a name under a parent.
+    /// Removing a name under a parent.
     Remove(u64, &'a str),
-    /// The same, where a file that is open may be hidden instead.
+    /// The same, but an open file may be hidden instead.
     Unlink(u64, &'a str),
-    /// The move of a name under a parent to another name under another.
+    /// Moving a name under a parent to another name under another parent.
     Move(u64, &'a str, u64, &'a str),
-    /// The same, where what stands at the other name is kept.
+    /// The same, keeping what is at the target.
     Keep(u64, &'a str, u64, &'a str),
-    /// A name under a parent and another under another, which change places.
+    /// Exchanging a name under a parent with another under another parent.
     Exchange(u64, &'a str, u64, &'a str),
     /// Names in a folder.
     Page(u64, &'a [&'a str]),
-    /// A node, which is read by a handle.
+    /// A node that is read through a handle.
     Read(u64, u64),
-    /// The file of a node, opened for reading.
+    /// Opening the file of a node for reading.
     Open(u64),
-    /// A file that is made at a name under a parent, and opened for writing.
+    /// Creating a file with a name under a parent, and opening it for writing.
     Create(u64, &'a str),
-    /// A handle of a node, to be closed.
+    /// Closing a handle of a node.
     Release(u64, u64),
 }
 
-/// What a request came to.
+/// The outcome of a request.
 #[derive(Clone, Copy)]
 pub enum Outcome<'a> {
     Failed,
     Done,
-    /// Its name is there.
+    /// Its name exists.
     Entry,
-    /// Which of the names of a page are there.
+    /// Which names of a page exist.
     Entries(&'a [bool]),
-    /// What stood at its name was moved to the candidate of that index.
+    /// What was at its name was moved to the candidate with this index.
     Hidden(u8),
-    /// What stood at its target was, and then, if so told, its source to its target.
+    /// What was at its target was moved to that candidate, and then, if the flag says so, its source to its target.
     HiddenMove(u8, bool),
 }
 
-/// What a call told.
+/// The result of a call.
 #[derive(Clone, Copy, Debug, PartialEq, Eq)]
 pub enum Told {
-    /// The request goes on.
+    /// The request began.
     Go,
-    /// Another request holds a name that it needs.
+    /// Another request holds a name that this one needs.
     Busy,
-    /// It may not go on: an error number.
+    /// It was refused with this error number.
     Refused(i32),
-    /// Its name is given an entry of the node of that number and generation.
+    /// Its name was given an entry of the node with this number and generation.
     Given(u64, u64),
-    /// Its name is given nothing.
+    /// Its name was given nothing.
     NotGiven,
-    /// It has more names than one, and so many of them are given an entry.
+    /// It has several names, and that many of them were given an entry.
     Gave(u64),
     /// It asked for no entry, and has ended.
     Ended,
-    /// Its ticket is of no request that the table works on.
+    /// Its ticket belongs to no request in progress.
     Lost,
-    /// It is settled, and its answer listed so many entries.
+    /// It is settled, and its answer had that many entries.
     Settled(u64),
-    /// So many lookups were given back.
+    /// That many lookups were forgotten.
     Amount(u64),
-    /// The period ended, and the ledger became so much shorter.
+    /// The period ended, and the ledger became that much shorter.
     Closed(u64),
-    /// Nothing was in hand, so that nothing was done.
+    /// There was no such ticket or answer, so nothing was done.
     Nothing,
-    /// What the step says of the table is so.
+    /// The table is as the step says.
     Shown,
-    /// It is not.
+    /// The table is not as the step says.
     Otherwise,
 }
 
@@ -123,7 +123,7 @@ pub enum Reply {
     Untaken,
 }
 
-/// A posting: of which number, in which generation, and of a Forget how many lookups, or of an Opening the count.
+/// A posting: its number and generation, and how many lookups for a Forget, or the count for an Opening.
 #[derive(Clone, Copy, PartialEq, Eq)]
 pub enum Posted {
     Born(u64, u64),
@@ -133,18 +133,18 @@ pub enum Posted {
     Opening(u64, u64, u64),
 }
 
-/// Where a node stands.
+/// Where a node is.
 #[derive(Clone, Copy)]
 pub enum Spot<'a> {
     Root,
     /// At a name under a parent.
     At(u64, &'a str),
-    /// At that name, with a hidden mark.
+    /// With that name, and with a hidden mark.
     Hidden(u64, &'a str),
     Cut,
 }
 
-/// A living node: its number, its generation, where it stands, and its count.
+/// A living node: its number, its generation, where it is, and its count.
 #[derive(Clone, Copy)]
 pub struct Living<'a>(pub u64, pub u64, pub Spot<'a>, pub u64);
 
@@ -155,57 +155,59 @@ pub const TOP: Living = Living(ROOT, 0, Spot::Root, 0);
 #[derive(Clone, Copy)]
 pub struct Flying<'a>(pub u64, pub ImageStage, pub &'a [u64]);
 
-/// A path that is held: by how many that share it, and by how many alone.
+/// A path that is held: how many requests share it, and how many hold it exclusively.
 #[derive(Clone, Copy)]
 pub struct Holding<'a>(pub &'a str, pub u64, pub u64);
 
-/// A call with what it must tell, or what the table must show. A request is named by its unique number.
+/// A call with its expected result, or what the table must be like. A request is given by its unique number.
 #[derive(Clone, Copy)]
 pub enum Step<'a> {
     Begin(u64, Asks<'a>, Told),
     Finish(u64, Outcome<'a>, Told),
     Settle(u64, Reply, Told),
-    /// Gives so many lookups of a node back.
+    /// Forgets that many lookups of a node.
     Forget(u64, u64, Told),
     /// Ends the period of the ledger.
     ClosePeriod(Told),
-    /// A LOOKUP of a name under a parent, from its begin to its settle as taken, and what its finish must tell.
+    /// A LOOKUP of a name under a parent, from its begin to its settle as taken, with the expected result of its
+    /// finish.
     LookUp(u64, &'a str, Told),
-    /// The share of that worker is passed from now on: the first one's is 0, and is passed first.
+    /// From now on the share of this worker is passed. Before, it is that of the first one, which is 0.
     Worker(usize),
     /// The last share is given up.
     LeaveShare,
-    /// A ticket of another table, whose first request it is, is in hand under a unique number.
+    /// Adds the ticket of another table's first request, under a unique number.
     Stranger(u64),
-    /// An answer of another table is in hand under a unique number. There a name was looked up so many times, and then a file was
-    /// made: it opened the first handle, and gave an entry of the node 3, or of 2 where nothing was looked up.
+    /// Adds an answer of another table, under a unique number. There a name was looked up that many times, and then a
+    /// file was created: it opened the first handle, and gave an entry of node 3, or of node 2 if nothing was looked
+    /// up.
     StrangersAnswer(u64, u64),
-    /// The ticket of that request has these paths, of a move the old one and then the new one, of an exchange both.
+    /// The ticket of that request has these paths: for a move the source and then the target, for an exchange both.
     Paths(u64, &'a [&'a str]),
-    /// The ticket of that request says whether its end removes a hidden file whose last opening it closed.
+    /// The ticket of that request says whether its end removes a hidden file whose last handle it closed.
     Last(u64, bool),
-    /// The answer of that request lists these nodes, by number and generation, or none, name by name.
+    /// The answer of that request has these nodes, by number and generation, or none, name by name.
     Lists(u64, &'a [Option<(u64, u64)>]),
-    /// The handle is that of an open file of the node, or of none.
+    /// The handle is that of an open file of this node, or not open.
     File(u64, Option<u64>),
-    /// The paths of the files that are hidden, by rising number of their nodes.
+    /// The paths of the hidden files, sorted by the numbers of their nodes.
     Leftover(&'a [&'a str]),
-    /// The living nodes, all of them.
+    /// All living nodes.
     Nodes(&'a [Living<'a>]),
-    /// The postings, all of them, the oldest first.
+    /// All postings, oldest first.
     Ledger(&'a [Posted]),
-    /// The requests in flight, all of them.
+    /// All requests in flight.
     Requests(&'a [Flying<'a>]),
-    /// The held paths, all of them.
+    /// All held paths.
     Holds(&'a [Holding<'a>]),
     /// How many nodes, postings and requests there are.
     Size(usize, usize, usize),
-    /// What the share of that worker holds.
+    /// What was posted to the share of this worker.
     Share(usize, Sum),
 }
 
 impl Step<'_> {
-    /// What the step must come to.
+    /// The expected result of the step.
     pub fn said(&self) -> Told {
         match *self {
             Step::Begin(_, _, told)

@@ -9,7 +9,7 @@ use crate::teller::run;
 use std::test::Fail;
 use table_image::ImageStage::Answered;
 
-/// An outcome that is none of a LOOKUP acts as a failure.
+/// An outcome that does not fit a LOOKUP acts as a failure.
 const MISFIT: Story = Story {
     limits: DEFAULT,
     steps: &[
@@ -31,7 +31,7 @@ fn misfit_outcome(rt: HostRuntime) -> Result<(), Fail> {
     run(&rt, &MISFIT)
 }
 
-/// A ticket of another table comes to one that works on nothing.
+/// A ticket of another table is passed to a table without requests in progress.
 const STRANGER: Story = Story {
     limits: DEFAULT,
     steps: &[
@@ -54,7 +54,8 @@ fn foreign_ticket(rt: HostRuntime) -> Result<(), Fail> {
     run(&rt, &STRANGER)
 }
 
-/// It comes to one that works on a request of the same id: the name of that request decides, and not `a`.
+/// It is passed to a table where a request with the same id is in progress: the name of that request decides, and not
+/// `a`.
 const STRANGER_OF_A_LIKE_ID: Story = Story {
     limits: DEFAULT,
     steps: &[
@@ -76,8 +77,8 @@ fn foreign_ticket_on_a_like_id(rt: HostRuntime) -> Result<(), Fail> {
     run(&rt, &STRANGER_OF_A_LIKE_ID)
 }
 
-/// An answer of another table comes to one whose request of the same id gave and opened nothing. It names the node 3 and the
-/// handle 1, which are there: both stay, and what the answer was made for is that request's end.
+/// An answer of another table is passed to a table whose request with the same id gave and opened nothing. It has node
+/// 3 and handle 1, which exist there: both remain, and the only effect is that request's end.
 const ANSWER_TO_NOTHING: Story = Story {
     limits: DEFAULT,
     steps: &[
@@ -106,7 +107,7 @@ const ANSWER_TO_NOTHING: Story = Story {
     gathers: Sum::All(2, 2, 0, 0),
 };
 
-/// The same where that request made a file of its own: its entry goes back and its file is closed, and no others.
+/// The same if that request created a file of its own: its entry is given back and its file is closed, and no others.
 const ANSWER_TO_ANOTHER: Story = Story {
     limits: DEFAULT,
     steps: &[
@@ -141,7 +142,8 @@ const ANSWER_TO_ANOTHER: Story = Story {
     gathers: Sum::All(3, 3, 1, 0),
 };
 
-/// An answer that gave and opened something comes to the first request of a table, which gave something else, as taken: all stays.
+/// An answer that gave and opened something is passed, as taken, to a table whose first request gave something else:
+/// everything remains.
 const TAKEN_ANSWER: Story = Story {
     limits: DEFAULT,
     steps: &[

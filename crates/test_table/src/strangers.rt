@@ -11,7 +11,7 @@ use std::marker::Brand;
 use table::{Answered, Seeds, Table, Ticket};
 
 impl<T: Ledgers> TestTable<T> {
-    /// Takes a ticket of another table.
+    /// Takes over a ticket of another table.
     pub fn take_stranger(&mut self, unique: u64) -> Result<Told, AllocError> {
         self.tickets.reserve(1)?;
         match stranger(self.alloc, self.seeds)? {
@@ -23,7 +23,7 @@ impl<T: Ledgers> TestTable<T> {
         }
     }
 
-    /// Takes an answer of another table, whose request comes after so many.
+    /// Takes over an answer of another table, whose request comes after that many others.
     pub fn take_answer(&mut self, unique: u64, after: u64) -> Result<Told, AllocError> {
         self.answers.reserve(1)?;
         match strangers_answer(self.alloc, self.seeds, after)? {
@@ -35,7 +35,7 @@ impl<T: Ledgers> TestTable<T> {
         }
     }
 
-    /// Looks a name up so many times, and then makes a file.
+    /// Looks up a name that many times, and then creates a file.
     fn make_file(&mut self, after: u64) -> Result<Told, AllocError> {
         for _ in 0..after {
             self.look_up(ROOT, "a")?;
@@ -59,7 +59,7 @@ fn stranger_on<T: Ledgers>(
     Ok(under_test.leave_with_ticket())
 }
 
-/// The ticket of the first request of a table, which asks for `a` in the root.
+/// The ticket of the first request of a table, for `a` in the root.
 fn stranger(alloc: Global, seeds: Seeds) -> Result<Option<Ticket>, AllocError> {
     stranger_on::<Brand>(alloc, seeds, Blanks::new(1))
 }
@@ -79,7 +79,7 @@ fn answer_on<T: Ledgers>(
     Ok(under_test.leave_with_answer())
 }
 
-/// The answer to the making of a file, in a table where `a` was looked up so many times before, and nothing else was done.
+/// The answer to a CREATE in a table where `a` was looked up that many times before, and nothing else was done.
 fn strangers_answer(
     alloc: Global,
     seeds: Seeds,

@@ -1,10 +1,10 @@
-//! How often a long run came to each thing.
+//! How many times a long run had each result.
 
 use crate::event::Event;
 use crate::least::LEAST;
 use std::alloc::{AllocError, Global};
 
-/// How often something came.
+/// How many times a result came.
 #[derive(Clone, Copy)]
 struct Count {
     event: Event,
@@ -12,7 +12,7 @@ struct Count {
     times: u64,
 }
 
-/// How often each thing came that must come.
+/// How many times each result came that must come.
 #[derive(Drop)]
 pub struct Tallies {
     counts: Vec<Count>,
@@ -31,7 +31,7 @@ impl Tallies {
         Ok(Tallies { counts })
     }
 
-    /// It came once more.
+    /// Counts one more.
     pub fn note(&mut self, event: Event) {
         for count in self.counts.iter_mut() {
             if count.event == event {
@@ -40,7 +40,7 @@ impl Tallies {
         }
     }
 
-    /// The place of an event that came too seldom, with how often it came, if one did.
+    /// The index of a result that came too seldom, with how many times it came, if there is one.
     pub fn too_few(&self) -> Option<(usize, u64)> {
         let place = self
             .counts

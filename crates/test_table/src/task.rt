@@ -1,29 +1,29 @@
-//! What a long run keeps of a request until its end.
+//! What a long run remembers about a request until its end.
 
 use crate::looks::{is_hidden, node_at, openings};
 use crate::story::Asks;
 use table_image::Image;
 
-/// What the end of a request is judged by.
+/// What is needed to check the end of a request.
 #[derive(Clone, Copy)]
 pub enum Task {
     Node,
     Name,
     Create,
-    /// So many names.
+    /// The number of names.
     Page(usize),
     Open,
     /// Whether its ticket says that it may hide.
     Removal {
         hides: bool,
     },
-    /// Whether it says so, whether both names are the same, and whether a node stands at the old one.
+    /// Whether its ticket says that it may hide, whether both names are the same, and whether the old one has a node.
     Move {
         hides: bool,
         same: bool,
         known: bool,
     },
-    /// Whether both names are the same, and at how many of them nodes stand.
+    /// Whether both names are the same, and how many of them have nodes.
     Exchange {
         same: bool,
         known: usize,
@@ -35,7 +35,7 @@ pub enum Task {
 }
 
 impl Task {
-    /// That of a request that goes on, from the table before it.
+    /// The task of a request that began, from the table before it.
     pub fn of(asks: Asks, hides: bool, before: &Image) -> Task {
         match asks {
             Asks::Node(_) | Asks::Read(..) => Task::Node,

@@ -1,4 +1,4 @@
-//! Stories are told to tables.
+//! Running stories on tables.
 
 ghost use Rattle.std.specs.Prelude.{◌≡◌, ◌≤◌};
 
@@ -18,7 +18,7 @@ use table_image::Image;
 /// The unique number of each LOOKUP that is one step.
 pub const LOOKUP: u64 = 0;
 
-/// The step at that place, from 0, told something else, which is this.
+/// The step with this index, from 0, had another result, which is this.
 pub fn mistold(place: usize, told: Told) -> Fail {
     Fail::from(("otherwise", place, told))
 }
@@ -34,7 +34,7 @@ impl From<bool> for Told {
     }
 }
 
-/// The image keeps the law, after the step at that place.
+/// Checks that the image is lawful, after the step with this index.
 pub fn expect_lawful(image: &Image, place: usize) -> Result<(), Fail> {
     if image.lawful() {
         return Ok(());
@@ -42,7 +42,7 @@ pub fn expect_lawful(image: &Image, place: usize) -> Result<(), Fail> {
     Err(Fail::from(("unlawful after", place)))
 }
 
-/// Whether the image shows what the step says of it.
+/// Whether the image is as the step says.
 fn shows(alloc: Global, image: &Image, step: &Step) -> Result<bool, AllocError> {
     match *step {
         Step::Nodes(nodes) => Ok(shows_nodes(image, nodes)),
@@ -64,7 +64,8 @@ fn shows(alloc: Global, image: &Image, step: &Step) -> Result<bool, AllocError> 
 }
 
 impl<T: Ledgers> TestTable<T> {
-    /// A LOOKUP from its begin to its settle as taken: what its finish told, or its begin where that refused it.
+    /// A LOOKUP from its begin to its settle as taken. Returns the result of its finish, or of its begin if that
+    /// refused it.
     pub fn look_up(&mut self, parent: u64, name: &str) -> Result<Told, AllocError> {
         let begun = self.begin(LOOKUP, Asks::Name(parent, name))?;
         if begun != Told::Go {
@@ -84,7 +85,7 @@ impl<T: Ledgers> TestTable<T> {
         }
     }
 
-    /// Whether the ticket of the request tells that it closed the last opening of a hidden file, or that it did not.
+    /// Whether the ticket of the request says that it closed the last handle of a hidden file, or that it did not.
     fn has_last(&self, unique: u64, last: bool) -> bool {
         match self.tickets.iter().find(|begun| begun.unique == unique) {
             Some(begun) => begun.ticket.last() == last,
@@ -123,7 +124,7 @@ impl<T: Ledgers> TestTable<T> {
         }
     }
 
-    /// What a step came to.
+    /// The result of a step.
     pub fn take(&mut self, step: &Step) -> Result<Told, AllocError> {
         match *step {
             Step::Begin(unique, asks, _) => self.begin(unique, asks),
@@ -140,7 +141,7 @@ impl<T: Ledgers> TestTable<T> {
         }
     }
 
-    /// Takes a step, after which the table keeps its law.
+    /// Takes a step, and checks that the table is lawful afterwards.
     fn tell_one(&mut self, place: usize, step: &Step) -> Result<(), Fail> {
         let told = self.take(step)?;
         if told != step.said() {
@@ -149,7 +150,7 @@ impl<T: Ledgers> TestTable<T> {
         self.attest(place)
     }
 
-    /// Fails where the table does not keep its law, after the step at that place.
+    /// Checks that the table is lawful, after the step with this index.
     pub fn attest(&self, place: usize) -> Result<(), Fail> {
         expect_lawful(&self.image()?, place)
     }
@@ -163,7 +164,7 @@ impl<T: Ledgers> TestTable<T> {
     }
 }
 
-/// What is done with a table, whatever names its ledgers.
+/// Something to be done with a table, for any type parameter of its ledgers.
 pub trait Play {
     fn play<T: Ledgers>(&mut self, under_test: &mut TestTable<T>) -> Result<(), Fail>;
 }
@@ -210,7 +211,7 @@ pub fn play_new<R: RandomSource + AllocGlobal, P: Play>(
     play_on::<Brand, P>(rt.alloc(), limits, seeds, Blanks::new(2), play)
 }
 
-/// Tells a story to a new table with two shares. Fails at the first step that comes otherwise.
+/// Runs a story on a new table with two shares. Fails at the first unexpected result.
 pub fn run<R: RandomSource + AllocGlobal>(rt: &R, story: &Story) -> Result<(), Fail> {
     let mut told = *story;
     let sum = play_new(rt, story.limits, &mut told)?;

@@ -1,4 +1,4 @@
-//! A table behind a lock, and two threads that give lookups back.
+//! A table behind a lock, and two threads that forget lookups.
 
 ghost use Rattle.std.specs.Prelude.{◌≡◌};
 
@@ -16,7 +16,7 @@ use std::thread;
 use std::thread::Threads;
 use table::{Seeds, Table};
 
-/// What the shares of three workers hold once the first has looked `a` up 100 times, and the others have given that back.
+/// The shares of three workers after the first has looked `a` up 100 times, and the others have forgotten that.
 const WORKED: &[Step] = &[
     Step::Nodes(&[TOP]),
     Step::Size(1, 201, 0),
@@ -25,7 +25,7 @@ const WORKED: &[Step] = &[
     Step::Share(2, Sum::All(0, 0, 0, 50)),
 ];
 
-/// Gives 50 lookups of node 2 back, one at a time: how many came back so.
+/// Forgets 50 lookups of node 2, one at a time. Returns how many were taken.
 fn forget_often<T: Ledgers, R: Wait>(rt: &R, table: &Mutex<Table<T>>, share: &mut Share<T>) -> u64 {
     let mut amount = 0u64;
     for _call in 0..50 {
@@ -35,7 +35,7 @@ fn forget_often<T: Ledgers, R: Wait>(rt: &R, table: &Mutex<Table<T>>, share: &mu
     amount
 }
 
-/// The first of three workers looks `a` up 100 times, and the others give that back at the same time.
+/// The first of three workers looks `a` up 100 times, and the others forget that at the same time.
 fn forget_in_threads<R: Threads + Wait + Sync, T: Ledgers + Send + Sync>(
     rt: &R,
     alloc: Global,

@@ -1,4 +1,4 @@
-//! A table at work, with its shares, and with the tickets and answers that were not spent yet.
+//! A table in use, with its shares, and with the tickets and answers that were not used up yet.
 
 ghost use Rattle.std.specs.Prelude.{◌<◌, vec_len};
 
@@ -14,22 +14,22 @@ use table::{
 use table_image::Image;
 use table_requests::{Names, Want};
 
-/// The ticket of the request that bears a unique number.
+/// The ticket of the request with a unique number.
 pub struct Begun {
     pub unique: u64,
     pub ticket: Ticket,
 }
 
-/// The answer to the request that bears a unique number.
+/// The answer to the request with a unique number.
 pub struct Ended {
     pub unique: u64,
     pub answered: Answered,
 }
 
-/// A table at work.
+/// A table in use.
 pub struct TestTable<T: Ledgers> {
     pub alloc: Global,
-    /// Of its table, and of another.
+    /// The seeds of this table, and of another one.
     pub seeds: Seeds,
     pub table: Table<T>,
     /// The share that is passed.
@@ -128,12 +128,12 @@ pub fn outcome_of(alloc: Global, outcome: Outcome) -> Result<TableOutcome, Alloc
     })
 }
 
-/// How many of the names are given an entry.
+/// How many of the names were given an entry.
 fn entries_in(given: &[Option<Given>]) -> u64 {
     given.iter().filter(|given| given.is_some()).count() as u64
 }
 
-/// What a finish told of a ticket with that id.
+/// The result of finishing a ticket with that id.
 pub fn told_by(answered: &Answered, id: u64) -> Told {
     if answered.id() != id {
         return Told::Otherwise;
@@ -149,7 +149,7 @@ pub fn told_by(answered: &Answered, id: u64) -> Told {
 }
 
 impl<T: Ledgers> TestTable<T> {
-    /// A table with its shares, of which the first is passed.
+    /// A table with its shares, the first of which is passed.
     pub fn new(
         alloc: Global,
         seeds: Seeds,
@@ -170,7 +170,7 @@ impl<T: Ledgers> TestTable<T> {
         }
     }
 
-    /// Takes up a request, and keeps its ticket.
+    /// Begins a request, and keeps its ticket.
     pub fn begin(&mut self, unique: u64, asks: Asks) -> Result<Told, AllocError> {
         let want = want_of(self.alloc, asks)?;
         self.tickets.reserve(1)?;
@@ -226,7 +226,7 @@ impl<T: Ledgers> TestTable<T> {
         Told::Settled(settled.entries())
     }
 
-    /// Gives lookups of a node back.
+    /// Forgets lookups of a node.
     pub fn forget(&mut self, number: u64, n: u64) -> Told {
         Told::Amount(self.table.forget(&mut self.share, number, n))
     }
@@ -246,7 +246,7 @@ impl<T: Ledgers> TestTable<T> {
         self.share.index() == worker
     }
 
-    /// Gives a share up that is not passed.
+    /// Gives up a share that is not passed.
     pub fn leave_share(&mut self) -> bool {
         match self.others.pop() {
             Some(other) => {
@@ -257,7 +257,7 @@ impl<T: Ledgers> TestTable<T> {
         }
     }
 
-    /// Takes the last ticket along, and ends the rest.
+    /// Takes out the last ticket, and ends the rest.
     pub fn leave_with_ticket(mut self) -> Option<Ticket> {
         let last = self.tickets.pop();
         let _sum = self.end();
@@ -265,7 +265,7 @@ impl<T: Ledgers> TestTable<T> {
         Some(ticket)
     }
 
-    /// Takes the last answer along, and ends the rest.
+    /// Takes out the last answer, and ends the rest.
     pub fn leave_with_answer(mut self) -> Option<Answered> {
         let last = self.answers.pop();
         let _sum = self.end();
@@ -276,7 +276,7 @@ impl<T: Ledgers> TestTable<T> {
         Some(answered)
     }
 
-    /// Ends all that is in flight without an entry, and gathers the shares.
+    /// Ends everything in flight without an entry, and gathers the shares.
     pub fn end(self) -> Sum {
         let TestTable {
             alloc: _,

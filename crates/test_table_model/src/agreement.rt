@@ -1,4 +1,4 @@
-//! Whether both tables show the same.
+//! Comparing both tables.
 
 use crate::list_table::{Bearer, ListFile, ListNode, ListRequest, ListTable, Posted, ROOT};
 use crate::pairs::Pairs;
@@ -18,7 +18,7 @@ fn node_of(image: &Image, number: u64) -> Option<&Node> {
         .find(|node| node.number == number)
 }
 
-/// The parent of the node of that number, if it is named so.
+/// The parent of the node with that number, if it has that name.
 fn parent_of(image: &Image, number: u64, name: &Name) -> Option<u64> {
     match &node_of(image, number)?.place {
         Place::Named(key) if key.name.is(name) => Some(key.parent),
@@ -26,7 +26,7 @@ fn parent_of(image: &Image, number: u64, name: &Name) -> Option<u64> {
     }
 }
 
-/// Whether parents lead from the node to the root by these names, the last one first.
+/// Whether following parents from the node passes these names, last one first, and ends at the root.
 fn stands_at(image: &Image, number: u64, path: &Path) -> bool {
     let mut number = number;
     for name in path.names().iter().rev() {
@@ -38,7 +38,7 @@ fn stands_at(image: &Image, number: u64, path: &Path) -> bool {
     number == ROOT
 }
 
-/// The posting as the list table would have it, of that number and generation. It knows no periods.
+/// The posting as the list table has it, for that number and generation. The list table has no periods.
 fn posted(posting: Posting, bearer: Bearer) -> Option<Posted> {
     match posting {
         Posting::Born { .. } => Some(Posted::Born(bearer)),
@@ -89,7 +89,7 @@ fn holds(image: &Image, path: &Path, numbers: (u64, u64)) -> bool {
 }
 
 impl Pairs {
-    /// Whether the two postings are the same. Those of a birth are a pair from now on.
+    /// Whether the two postings are the same. If they are births, their numbers are a pair from now on.
     fn take_posting(&mut self, list: Posted, other: Posting) -> Result<bool, AllocError> {
         let bearer = bearer_of(other);
         if let Posted::Born(born) = list {
@@ -98,8 +98,8 @@ impl Pairs {
         Ok(posted(other, list.bearer()) == Some(list) && self.are(list.bearer(), bearer))
     }
 
-    /// Whether the postings after those that were seen are the same: the last ones of the other table, which knows periods. Where it
-    /// bounds its counts none of these ended, and else a period keeps within its limit.
+    /// Whether the postings after those compared before are the same: they are the last ones of the other table, which
+    /// has periods. If its counts are bounded no period has ended; otherwise a period stays within its limit.
     pub fn take_postings(
         &mut self,
         list: &ListTable,
@@ -123,7 +123,7 @@ impl Pairs {
         }
     }
 
-    /// Whether the node is the same in both: its pair, its mark and its count.
+    /// Whether the node is the same in both tables: its pair, its mark and its count.
     fn same_node(&self, list: &ListTable, node: &ListNode, other: &Node) -> bool {
         self.are(node.bearer(), (other.number, other.generation))
             && node.hidden == other.hidden
@@ -165,7 +165,7 @@ impl Pairs {
         Ok(list.nodes.len() == image.nodes.as_slice().len())
     }
 
-    /// Whether the same paths are held, by as many requests.
+    /// Whether the same paths are held, by the same number of requests.
     fn same_holds(&self, list: &ListTable, image: &Image) -> Result<bool, AllocError> {
         let held = held_ways(list)?;
         for way in &held {
@@ -190,7 +190,7 @@ impl Pairs {
             && list.files.len() == image.files.as_slice().len()
     }
 
-    /// The other table's number of a node that lives.
+    /// The other table's number of a living node.
     pub fn number(&self, list: &ListTable, number: u64) -> Option<u64> {
         let (other, _) = self.of(list.node(number)?.bearer())?;
         Some(other)
@@ -228,7 +228,7 @@ impl Pairs {
             && list.requests.len() == image.records.as_slice().len()
     }
 
-    /// What both tables do not show alike, if something is so.
+    /// What differs between the two tables, if anything.
     pub fn difference(
         &self,
         list: &ListTable,

@@ -1,9 +1,9 @@
-//! What is asked of both tables, as plain values. Numbers and names are those of the list table.
+//! The calls on both tables, as plain values. Numbers and names are those of the list table.
 
 use crate::words::Word;
 use table::{Access, Need};
 
-/// The first so many of three names, those of a page.
+/// Up to three names, for a page.
 #[derive(Clone, Copy, Debug, PartialEq, Eq)]
 pub struct Batch {
     pub first: Word,
@@ -18,13 +18,13 @@ impl Batch {
         [self.first, self.second, self.third]
     }
 
-    /// How many are those of the page.
+    /// How many of them the page has.
     pub fn len(self) -> usize {
         self.count.min(3)
     }
 }
 
-/// The first so many of four findings.
+/// Up to four findings.
 #[derive(Clone, Copy, Debug, PartialEq, Eq)]
 pub struct Findings {
     pub first: bool,
@@ -40,38 +40,38 @@ impl Findings {
         [self.first, self.second, self.third, self.fourth]
     }
 
-    /// How many are those of the page.
+    /// How many of them the page has.
     pub fn len(self) -> usize {
         self.count.min(4)
     }
 }
 
-/// What a request is begun with.
+/// What a request begins with.
 #[derive(Clone, Copy, Debug, PartialEq, Eq)]
 pub enum Ask {
-    /// A node, and the handle that it is used by with what for, if one is.
+    /// A node, and the handle through which it is used and for what, if any.
     Node(u64, Option<(u64, Need)>),
     /// A name under a parent.
     Name(u64, Word),
     /// Names in a folder.
     Page(u64, Batch),
-    /// The removal of a name under a parent, and whether its file may be hidden instead.
+    /// Removing a name under a parent, and whether its file may be hidden instead.
     Remove(u64, Word, bool),
-    /// The move of a name under a parent to a name under another.
+    /// Moving a name under a parent to a name under another.
     Move(u64, Word, u64, Word),
-    /// The same, where what stands at the other name is kept.
+    /// The same, keeping what is at the target.
     Keep(u64, Word, u64, Word),
-    /// A name under a parent and one under another, which change places.
+    /// Exchanging a name under a parent with one under another.
     Exchange(u64, Word, u64, Word),
-    /// The file of a node, to be opened.
+    /// Opening the file of a node.
     Open(u64, Access),
-    /// A file to be made at a name under a parent, and opened.
+    /// Creating a file with a name under a parent, and opening it.
     Create(u64, Word, Access),
-    /// The handle of a node, to be closed.
+    /// Closing a handle of a node.
     Release(u64, u64),
 }
 
-/// What a request came to.
+/// The outcome of a request.
 #[derive(Clone, Copy, Debug, PartialEq, Eq)]
 pub enum End {
     Failed,
@@ -79,22 +79,22 @@ pub enum End {
     Entry,
     Entries(Findings),
     Hidden(u8),
-    /// The index of the candidate, and whether the move was made after it.
+    /// The index of the candidate, and whether the move was made afterwards.
     HiddenMove(u8, bool),
 }
 
-/// A call of a table. A ticket and an answer are named by their place among those in hand.
+/// A call on a table. A ticket or an answer is given by its index among those pending.
 #[derive(Clone, Copy, Debug, PartialEq, Eq)]
 pub enum Step {
     Begin(Ask),
     Finish(usize, End),
     /// Whether the reply was taken.
     Settle(usize, bool),
-    /// So many lookups of a node are given back.
+    /// Forgetting that many lookups of a node.
     Forget(u64, u64),
 }
 
-/// What a call told, but for its paths and the nodes that it gave.
+/// The result of a call, without its paths and the nodes that it gave.
 #[derive(Clone, Copy, Debug, PartialEq, Eq)]
 pub enum Told {
     Go {

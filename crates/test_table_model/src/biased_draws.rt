@@ -1,11 +1,11 @@
-//! Steps at random of which three in four are about what is there.
+//! Random steps, three in four of which are about what exists.
 
 use crate::asks::{Ask, Batch, End, Findings, Step};
 use crate::draws::Draws;
 use crate::list_table::{ListNode, ListTable, Plan, ROOT};
 use crate::words::Word;
 
-/// The place of a node that has no mark.
+/// The place of a node without a mark.
 fn plain_place(table: &ListTable, node: &ListNode) -> Option<(u64, Word)> {
     if node.hidden {
         None
@@ -14,7 +14,7 @@ fn plain_place(table: &ListTable, node: &ListNode) -> Option<(u64, Word)> {
     }
 }
 
-/// The place of a node that is hidden.
+/// The place of a hidden node.
 fn hidden_place(table: &ListTable) -> Option<(u64, Word)> {
     let node = table.nodes.iter().find(|node| node.hidden)?;
     table.place_of(node)
@@ -28,7 +28,7 @@ fn open_place(table: &ListTable, place: usize) -> Option<(u64, Word)> {
 }
 
 impl Draws {
-    /// The number of a living node three times out of four, or any.
+    /// The number of a living node three times out of four, otherwise any.
     fn living(&mut self, table: &ListTable) -> u64 {
         let place = self.place(table.nodes.len());
         match table.nodes.get(place) {
@@ -37,7 +37,7 @@ impl Draws {
         }
     }
 
-    /// The number of a named node two times out of three, or any.
+    /// The number of a node with a name two times out of three, otherwise any.
     fn named(&mut self, table: &ListTable) -> u64 {
         let place = self.place(table.nodes.len());
         match table.nodes.get(place) {
@@ -46,7 +46,7 @@ impl Draws {
         }
     }
 
-    /// The root, or as often a number.
+    /// The root half the time, otherwise a number.
     fn parent(&mut self, table: &ListTable) -> u64 {
         if self.chance(1, 2) {
             ROOT
@@ -59,7 +59,7 @@ impl Draws {
         (self.parent(table), self.word())
     }
 
-    /// The number of a named node that has no mark half the time, or any.
+    /// The number of a node with a name and without a mark half the time, otherwise any.
     fn plain_number(&mut self, table: &ListTable) -> u64 {
         let place = self.place(table.nodes.len());
         match table.nodes.get(place) {
@@ -68,7 +68,7 @@ impl Draws {
         }
     }
 
-    /// The place of a node that has no mark half the time, or any.
+    /// The place of a node without a mark half the time, otherwise any.
     fn source(&mut self, table: &ListTable) -> (u64, Word) {
         let place = self.place(table.nodes.len());
         let known = match table.nodes.get(place) {
@@ -81,7 +81,7 @@ impl Draws {
         }
     }
 
-    /// The place of a node with an open file three times out of four, or any.
+    /// The place of a node with an open file three times out of four, otherwise any.
     fn target(&mut self, table: &ListTable) -> (u64, Word) {
         let place = self.place(table.files.len());
         match open_place(table, place) {
@@ -105,7 +105,7 @@ impl Draws {
         Ask::Move(parent, word, new_parent, new_word)
     }
 
-    /// A move that keeps what stands at its target, which may be an open file.
+    /// A move that keeps what is at its target, which may be an open file.
     fn keep(&mut self, table: &ListTable) -> Ask {
         let (parent, word) = self.source(table);
         let (new_parent, new_word) = self.target(table);
@@ -127,7 +127,7 @@ impl Draws {
         Ask::Remove(parent, word, self.chance(1, 4))
     }
 
-    /// A node and the handle of its open file three times out of four, or any.
+    /// A node and the handle of an open file of it three times out of four, otherwise any.
     fn handle(&mut self, table: &ListTable) -> (u64, u64) {
         let place = self.place(table.files.len());
         match table.files.get(place) {
@@ -162,7 +162,7 @@ impl Draws {
         Ask::Page(folder, batch)
     }
 
-    /// What a request asks for, mostly of what is there.
+    /// What a request asks for, usually about what exists.
     fn ask(&mut self, table: &ListTable) -> Ask {
         match self.among(44) {
             0..=2 => Ask::Node(self.named(table), None),
@@ -202,7 +202,7 @@ impl Draws {
         }
     }
 
-    /// What a request comes to: three times out of four what fits it.
+    /// The outcome of a request: three times out of four one that fits it.
     fn end(&mut self, plan: &Plan) -> End {
         if self.chance(3, 4) {
             self.fitting_end(plan)
@@ -211,7 +211,7 @@ impl Draws {
         }
     }
 
-    /// The end of the work of the ticket in that place, by its id, if there is one.
+    /// Ends the work of the ticket with that index, by its id, if there is one.
     fn finish(&mut self, table: &ListTable, tickets: &[u64]) -> Step {
         let place = self.place(tickets.len());
         let request = match tickets.get(place) {
@@ -224,7 +224,7 @@ impl Draws {
         }
     }
 
-    /// A step, mostly about what is there. The tickets in hand are told by their ids.
+    /// A step, usually about what exists. The pending tickets are given by their ids.
     pub fn biased_step(&mut self, table: &ListTable, tickets: &[u64], answers: usize) -> Step {
         match self.among(11) {
             0..=3 => Step::Begin(self.ask(table)),

@@ -1,4 +1,4 @@
-//! Both tables at work, with the tickets and answers of the one that were not spent yet.
+//! Both tables in use, with the tickets and answers of the one under test that were not used up yet.
 
 use crate::asks::{End, Findings, Step, Told};
 use crate::list_table::ListTable;
@@ -25,18 +25,18 @@ pub struct Both<T: Ledgers> {
     pub list: ListTable,
     pub pairs: Pairs,
     pub table: Table<T>,
-    /// The share that is passed to each finish, and the one that is passed to all else.
+    /// The share that is passed to each finish, and the one that is passed to all other calls.
     pub share: Share<T>,
     pub other: Share<T>,
     pub tickets: Vec<Begun>,
     /// The ids of these tickets.
     pub working: Vec<u64>,
     pub answers: Vec<Ended>,
-    /// So many postings were compared.
+    /// How many postings were compared.
     pub seen: usize,
 }
 
-/// What a call told: the list table and the other.
+/// The results of a call: that of the list table, and that of the other.
 #[derive(Clone, Copy, Debug, PartialEq, Eq)]
 pub struct Answers {
     pub list: Told,
@@ -87,7 +87,7 @@ fn told_by_answer(answered: &Answered) -> Told {
     }
 }
 
-/// What a settle of that id told.
+/// The result of settling an answer with that id.
 fn told_by_settle(settled: &Settled, id: u64) -> Told {
     if settled.id() != id {
         return Told::Nothing;
@@ -151,7 +151,7 @@ impl<T: Ledgers> Both<T> {
         Ok(Answers { list, other })
     }
 
-    /// Hands the step to both.
+    /// Makes the step on both.
     pub fn call(&mut self, unique: u64, step: Step) -> Result<Answers, AllocError> {
         match step {
             Step::Begin(ask) => {
@@ -166,7 +166,7 @@ impl<T: Ledgers> Both<T> {
         }
     }
 
-    /// Whether the last ticket tells the paths of the list table's.
+    /// Whether the last ticket has the paths that the list table's has.
     pub fn same_paths(&self) -> Result<bool, AllocError> {
         match (self.tickets.last(), self.list.request(self.list.last_id)) {
             (Some(begun), Some(request)) => {
@@ -177,7 +177,7 @@ impl<T: Ledgers> Both<T> {
         }
     }
 
-    /// Whether the last answer gives the nodes of the list table's.
+    /// Whether the last answer has the nodes that the list table's has.
     pub fn same_given(&self) -> bool {
         let Some(Ended { id, answered }) = self.answers.last() else {
             return false;

@@ -1,4 +1,4 @@
-//! Both tables are driven by the same calls, and agree after each of them.
+//! Driving both tables with the same calls, and checking that they agree after each.
 
 ghost use Rattle.std.specs.Prelude.{◌≡◌, ◌≤◌, ◌<◌, vec_len};
 
@@ -16,12 +16,12 @@ use std::random::RandomSource;
 use std::test::Fail;
 use table::{Counts, Limits, Outcome, Seeds, Table};
 
-/// What is drawn.
+/// The choice of steps.
 #[derive(Clone, Copy, PartialEq, Eq)]
 pub enum Manner {
     /// Any steps.
     Any,
-    /// Steps of which three in four are about what is there.
+    /// Steps of which three in four are about what exists.
     Biased,
 }
 
@@ -32,11 +32,11 @@ pub struct Drive {
     pub manner: Manner,
     pub draws: Draws,
     pub steps: usize,
-    /// What it must come to, five times each.
+    /// The results that must come, five times each.
     pub expected: &'static [Came],
 }
 
-/// So often a run must come to each thing that is expected of it.
+/// How many times a run must have each expected result.
 const LEAST: usize = 5;
 
 impl<T: Ledgers> Both<T> {
@@ -49,7 +49,7 @@ impl<T: Ledgers> Both<T> {
         }
     }
 
-    /// What differs after a call, if something does.
+    /// What differs after a call, if anything.
     fn difference(&mut self, answers: Answers) -> Result<Option<&'static str>, AllocError> {
         if answers.list != answers.other {
             return Ok(Some("answers"));
@@ -66,7 +66,7 @@ impl<T: Ledgers> Both<T> {
         }
     }
 
-    /// Hands both the step at that place. They agree after it.
+    /// Makes the step with that index on both, and checks that they agree afterwards.
     fn turn(&mut self, place: usize, step: Step) -> Result<Answers, Fail> {
         let answers = self.call(place as u64, step)?;
         match self.difference(answers)? {
@@ -89,7 +89,7 @@ impl<T: Ledgers> Both<T> {
         }
     }
 
-    /// Spends all that is in hand, and gathers the shares.
+    /// Uses up everything that is pending, and gathers the shares.
     fn end(self) -> Option<Sums> {
         let Both {
             alloc,
@@ -115,7 +115,7 @@ impl<T: Ledgers> Both<T> {
     }
 }
 
-/// Both shares. One that finds no memory is given up.
+/// Both shares. If memory for one is refused, it is given up.
 fn shares_of<T: Ledgers>(alloc: Global, share: Share<T>, other: Share<T>) -> Vec<Share<T>> {
     let mut shares = Vec::new(alloc);
     if let Err(AllocFailed { value }) = shares.push(share) {
@@ -127,7 +127,7 @@ fn shares_of<T: Ledgers>(alloc: Global, share: Share<T>, other: Share<T>) -> Vec
     shares
 }
 
-/// What the shares add up to, if none is missing.
+/// The totals of the shares, if none is missing.
 fn gathered<T: Ledgers>(table: Table<T>, shares: Vec<Share<T>>) -> Option<Sums> {
     match table.gather(shares) {
         Ok(totals) => Some(Sums {

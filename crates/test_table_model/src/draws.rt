@@ -1,4 +1,4 @@
-//! Steps at random: any of them, by the plain generator.
+//! Random steps, chosen evenly from all.
 
 use crate::asks::{Ask, Batch, End, Findings, Step};
 use crate::words::Word;
@@ -10,11 +10,11 @@ const NUMBERS: u64 = 9;
 /// The letter of the name that may be long.
 pub const LONG: char = 'c';
 
-/// Numbers at random, the same in each run.
+/// Random numbers, the same ones in each run.
 #[derive(Clone, Copy, Drop)]
 pub struct Draws {
     pub x: u64,
-    /// How many bytes the name `c` has. The others have one.
+    /// How many bytes the name `c` has. The other names have one.
     pub longest: usize,
 }
 
@@ -27,7 +27,7 @@ impl Draws {
         self.x >> 32
     }
 
-    /// A choice among so many, or 0 among none.
+    /// A number below `n`, or 0 if `n` is 0.
     pub fn among(&mut self, n: u64) -> u64 {
         let draw = self.next();
         if n == 0 { 0 } else { draw % n }
@@ -37,7 +37,7 @@ impl Draws {
         self.among(len as u64) as usize
     }
 
-    /// So many times out of so many.
+    /// True that many times out of that many.
     pub fn chance(&mut self, times: u64, of: u64) -> bool {
         self.among(of) < times
     }
@@ -94,7 +94,7 @@ impl Draws {
         }
     }
 
-    /// The use of a handle, or of none.
+    /// The use of a handle, or none.
     fn any_handle(&mut self) -> Option<(u64, Need)> {
         if self.chance(1, 2) {
             Some((self.any_number(), self.need()))
@@ -134,12 +134,12 @@ impl Draws {
         }
     }
 
-    /// An index of a candidate, or, one time in six, one that is none.
+    /// The index of a candidate, or, one time in six, one without a candidate.
     pub fn index(&mut self) -> u8 {
         u8::try_from(self.among(12)).unwrap_or(0)
     }
 
-    /// Any outcome, fitting or not.
+    /// Any outcome, whether it fits or not.
     pub fn any_end(&mut self) -> End {
         match self.among(6) {
             0 => End::Failed,
@@ -151,7 +151,7 @@ impl Draws {
         }
     }
 
-    /// Any step, where so many tickets and answers are in hand.
+    /// Any step, when that many tickets and answers are pending.
     pub fn any_step(&mut self, tickets: usize, answers: usize) -> Step {
         match self.among(4) {
             0 => Step::Begin(self.any_ask()),

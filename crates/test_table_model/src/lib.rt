@@ -1,4 +1,4 @@
-//! The table beside one over plain lists: both are driven by the same calls. The crate is of tests alone.
+//! The table is compared with one over plain lists: both are driven by the same calls. This crate has only tests.
 #![tactic(auto)]
 
 #[cfg(test)]

@@ -1,4 +1,4 @@
-//! How the list table takes a request up.
+//! The begin of a request in the list table.
 
 use crate::asks::{Ask, Told};
 use crate::list_plans::LONGEST;
@@ -8,7 +8,7 @@ use errno::{EAGAIN, EBADF, EINVAL, ENAMETOOLONG, ENFILE, ENOTEMPTY, ESTALE};
 use std::alloc::AllocError;
 use table::{Access, Counts, Need};
 
-/// The counter of hidden names rises by so many where a file may be hidden.
+/// By how much the counter of hidden names rises if a file may be hidden.
 const ADVANCE: u32 = 10;
 
 fn allows(access: Access, need: Need) -> bool {
@@ -24,7 +24,7 @@ fn meet(ways: &[Way], others: &[Way]) -> bool {
     ways.iter().any(|way| is_among(way, others))
 }
 
-/// Whether what the one holds alone is held by the other.
+/// Whether what the first holds exclusively is held by the second.
 fn is_in_the_way(one: &Plan, other: &Plan) -> bool {
     meet(one.exclusive.as_slice(), other.shared.as_slice())
         || meet(one.exclusive.as_slice(), other.exclusive.as_slice())
@@ -34,7 +34,7 @@ fn conflict(one: &Plan, other: &Plan) -> bool {
     is_in_the_way(one, other) || is_in_the_way(other, one)
 }
 
-/// Why a move or an exchange may not be made, if it may not: one of its paths is a proper prefix of the other.
+/// Why a move or an exchange is refused, if it is: one of its paths is a proper prefix of the other.
 fn astray(plan: &Plan) -> Option<i32> {
     let (Ask::Move(..) | Ask::Keep(..) | Ask::Exchange(..), [source, target, ..]) = (
         plan.ask,
@@ -55,7 +55,7 @@ fn astray(plan: &Plan) -> Option<i32> {
     }
 }
 
-/// What requests were promised together.
+/// What all requests were promised.
 #[derive(Clone, Copy)]
 struct Promised {
     births: u64,
@@ -74,7 +74,7 @@ impl Promised {
 }
 
 impl ListTable {
-    /// Whether the handle is that of an open file of the node, and may be used so.
+    /// Whether the handle is that of an open file of the node, and may be used for this.
     fn may_use(&self, number: u64, handle: u64, need: Need) -> bool {
         match self.file(handle) {
             Some(file) => {
@@ -93,14 +93,14 @@ impl ListTable {
         }
     }
 
-    /// Whether another request that is worked on is in the way.
+    /// Whether another request in progress conflicts with it.
     fn is_busy(&self, plan: &Plan) -> bool {
         self.requests
             .iter()
             .any(|request| request.working && conflict(&request.plan, plan))
     }
 
-    /// What is promised to those that are worked on, and to one more.
+    /// What is promised to the requests in progress, and to one more.
     fn promised(&self, plan: &Plan) -> Promised {
         let mut promised = Promised {
             births: 0,
@@ -132,7 +132,7 @@ impl ListTable {
             || promised.files > u64::MAX.saturating_sub(self.last_handle)
     }
 
-    /// Why a request with that plan may not go on, if it may not.
+    /// Why a request with that plan is refused, if it is.
     fn refusal(&self, plan: &Plan) -> Option<Told> {
         if plan.ways.iter().any(|way| way.bytes() > LONGEST) {
             return Some(Told::Refused(ENAMETOOLONG));
@@ -152,7 +152,7 @@ impl ListTable {
         None
     }
 
-    /// The nodes that the request names, and those that stand at paths of its ticket.
+    /// The nodes that the request names, and those at paths of its ticket.
     fn pins_of(&self, plan: &Plan) -> Result<Vec<u64>, AllocError> {
         let mut pins = Vec::new(self.alloc);
         pins.extend_from_slice(plan.given.as_slice())?;
@@ -164,7 +164,7 @@ impl ListTable {
         Ok(pins)
     }
 
-    /// Takes the request up. What it closes is closed, and what nothing keeps any more goes.
+    /// Begins the request. What it closes is closed, and what nothing keeps alive any more is dropped.
     fn go(&mut self, unique: u64, plan: Plan) -> Result<Told, AllocError> {
         let pins = self.pins_of(&plan)?;
         let told = Told::Go {
@@ -192,7 +192,7 @@ impl ListTable {
         Ok(told)
     }
 
-    /// Takes a request up, or not. One that goes on bears the last id.
+    /// Begins a request or refuses it. A request that begins gets the last id.
     pub fn begin(&mut self, unique: u64, ask: Ask) -> Result<Told, AllocError> {
         if self.is_bad_handle(ask) {
             return Ok(Told::Refused(EBADF));

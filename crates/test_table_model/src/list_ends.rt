@@ -1,4 +1,4 @@
-//! What the list table takes back, and what goes from it.
+//! What the list table takes back and drops.
 
 use crate::asks::Told;
 use crate::list_table::{Bearer, ListNode, ListTable, Posted, ROOT};
@@ -25,7 +25,7 @@ impl ListTable {
         }
     }
 
-    /// Whether something keeps the node.
+    /// Whether something keeps the node alive.
     fn has_reason(&self, node: &ListNode) -> bool {
         node.number == ROOT
             || node.hidden
@@ -35,7 +35,7 @@ impl ListTable {
             || self.count(node.bearer()) > 0
     }
 
-    /// Drops what nothing keeps, until all that is left is kept.
+    /// Drops what nothing keeps alive, until everything that is left has a reason.
     pub fn sweep(&mut self) {
         for _round in 0..self.nodes.len() {
             let Some(place) = self.nodes.iter().position(|node| !self.has_reason(node)) else {
@@ -45,7 +45,7 @@ impl ListTable {
         }
     }
 
-    /// An entry goes back, if its count is above 0.
+    /// Takes back an entry, if its count is above 0.
     fn give_back(&mut self, bearer: Bearer) -> Result<(), AllocError> {
         if self.count(bearer) > 0 {
             self.postings.push(Posted::Back(bearer))?;
@@ -53,7 +53,7 @@ impl ListTable {
         Ok(())
     }
 
-    /// All that an answer listed goes back, and the file that it opened is closed.
+    /// Takes back everything that an answer gave, and closes the file that it opened.
     fn take_back(
         &mut self,
         listed: &[Option<Bearer>],
@@ -70,7 +70,7 @@ impl ListTable {
         Ok(())
     }
 
-    /// Ends the request of that id, which was answered.
+    /// Ends the request with that id, which was answered.
     pub fn settle(&mut self, id: u64, taken: bool) -> Result<Told, AllocError> {
         let place = self
             .requests
@@ -92,7 +92,7 @@ impl ListTable {
         Ok(Told::Settled { entries, taken })
     }
 
-    /// The client gives lookups of a node back: at most as many as its count.
+    /// The client forgets lookups of a node: at most as many as its count.
     pub fn forget(&mut self, number: u64, n: u64) -> Result<Told, AllocError> {
         let bearer = match self.node(number) {
             Some(node) if number != ROOT => node.bearer(),

@@ -1,4 +1,4 @@
-//! How the list table ends the work on a request.
+//! Ending the work on a request in the list table.
 
 use crate::asks::{Ask, End, Findings, Told};
 use crate::list_table::{Bearer, ListFile, ListNode, ListRequest, ListTable, Plan, Posted};
@@ -6,7 +6,7 @@ use crate::words::Way;
 use std::alloc::AllocError;
 use table::Access;
 
-/// The candidate of that index, of those at the end of a ticket's paths.
+/// The candidate with that index, among those at the end of a ticket's paths.
 fn candidate(plan: &Plan, index: u8) -> Option<&Way> {
     if !plan.hide || index > 9 {
         return None;
@@ -24,7 +24,7 @@ fn list_none(request: &mut ListRequest) -> Result<(), AllocError> {
 }
 
 impl ListTable {
-    /// A number above the root's that no living node bears.
+    /// A number above the root's that no living node has.
     fn free_number(&self) -> u64 {
         let mut free = 2u64;
         for _node in 0..self.nodes.len() {
@@ -48,7 +48,7 @@ impl ListTable {
         Ok(bearer)
     }
 
-    /// Gives an entry of the node at the path, which is born if none stands there.
+    /// Gives an entry of the node at the path. If there is none, one is born.
     fn give(&mut self, way: &Way) -> Result<Bearer, AllocError> {
         let bearer = match self.at(way).map(|node| node.bearer()) {
             Some(bearer) => bearer,
@@ -81,7 +81,7 @@ impl ListTable {
         Ok(())
     }
 
-    /// Each node at the path or below is cut.
+    /// Cuts each node at the path or below.
     fn cut(&mut self, way: &Way) {
         for node in self.nodes.iter_mut() {
             if node.is_below(way) {
@@ -91,8 +91,8 @@ impl ListTable {
         }
     }
 
-    /// What stands at the first path or below stands at the second or below, where all is cut before. A path that is moved to
-    /// itself changes nothing.
+    /// Moves what is at the first path or below to the second, where everything is cut first. A path that is moved to
+    /// itself does not change.
     fn relocate(&mut self, old: &Way, new: &Way) -> Result<(), AllocError> {
         if old.is(new) {
             return Ok(());
@@ -110,7 +110,7 @@ impl ListTable {
         Ok(())
     }
 
-    /// What stands at either path or below stands at the other or below.
+    /// Exchanges what is at the two paths or below.
     fn exchange(&mut self, one: &Way, two: &Way) -> Result<(), AllocError> {
         for node in self.nodes.iter_mut() {
             let moved = match &node.way {
@@ -125,7 +125,7 @@ impl ListTable {
         Ok(())
     }
 
-    /// Moves what stands at the path to the candidate, and marks the node.
+    /// Moves what is at the path to the candidate, and marks the node.
     fn hide(&mut self, way: &Way, candidate: &Way) -> Result<(), AllocError> {
         let hidden = self.at(way).map(|node| node.number);
         self.relocate(way, candidate)?;
@@ -147,7 +147,7 @@ impl ListTable {
         Ok(self.last_handle)
     }
 
-    /// An entry is given for the one name of the request, whose file is opened if so asked for.
+    /// Gives an entry for the only name of the request, and opens its file if asked for.
     fn give_name(&mut self, request: &mut ListRequest) -> Result<(), AllocError> {
         let [way, ..] = request.plan.ways.as_slice() else {
             return Ok(());
@@ -172,7 +172,7 @@ impl ListTable {
         Ok(())
     }
 
-    /// What becomes of names.
+    /// Changes names.
     fn change(&mut self, plan: &Plan, end: End) -> Result<(), AllocError> {
         match (plan.ask, end, plan.ways.as_slice()) {
             (Ask::Remove(..), End::Done, [way, ..]) => self.cut(way),
@@ -199,7 +199,7 @@ impl ListTable {
         Ok(())
     }
 
-    /// What the outcome does, where it fits.
+    /// Carries out the outcome, if it fits.
     fn act(&mut self, request: &mut ListRequest, end: End) -> Result<(), AllocError> {
         match (request.plan.ask, end) {
             (Ask::Name(..) | Ask::Create(..), End::Entry) => self.give_name(request),
@@ -212,7 +212,7 @@ impl ListTable {
         }
     }
 
-    /// The request is answered, and pins what it gave.
+    /// Answers the request, which then also pins what it gave.
     fn answer(&mut self, mut request: ListRequest) -> Result<Told, AllocError> {
         for given in &request.listed {
             if let Some((number, _)) = *given {
@@ -230,7 +230,7 @@ impl ListTable {
         Ok(told)
     }
 
-    /// Ends the work on the request of that id. What it lists stays with it.
+    /// Ends the work on the request with that id. What it gave is recorded with it.
     pub fn finish(&mut self, id: u64, end: End) -> Result<Told, AllocError> {
         let place = self
             .requests

@@ -2,7 +2,7 @@
 
 use crate::list_table::{Bearer, ListTable, Posted};
 
-/// What a ledger adds up to.
+/// The totals of a ledger.
 #[derive(Clone, Copy, Debug, PartialEq, Eq)]
 pub struct Sums {
     pub born: u64,
@@ -19,7 +19,7 @@ const NOTHING: Sums = Sums {
 };
 
 impl Sums {
-    /// With one posting more.
+    /// With one more posting.
     fn with(self, posting: Posted) -> Sums {
         match posting {
             Posted::Born(_) => Sums {
@@ -41,7 +41,7 @@ impl Sums {
         }
     }
 
-    /// The entries that did not come back and were not forgotten.
+    /// The entries that were not given back or forgotten.
     pub fn count(self) -> u64 {
         self.entries
             .saturating_sub(self.backs.saturating_add(self.forgotten))
@@ -60,7 +60,7 @@ impl Posted {
 }
 
 impl ListTable {
-    /// Of all numbers.
+    /// The totals of all numbers.
     pub fn sums(&self) -> Sums {
         let mut sums = NOTHING;
         for posting in &self.postings {
@@ -69,7 +69,7 @@ impl ListTable {
         sums
     }
 
-    /// The lookup count of a number in a generation: the sum of its postings, from the last one back to its birth.
+    /// The lookup count of a number and generation: the sum of its postings, from the last one back to its birth.
     pub fn count(&self, bearer: Bearer) -> u64 {
         let mut sums = NOTHING;
         for posting in self.postings.iter().rev() {

@@ -1,18 +1,18 @@
-//! What a request of the list table takes: the paths of its ticket, what it holds, and what it is promised.
+//! What a request of the list table needs: the paths of its ticket, what it holds, and what it is promised.
 
 use crate::asks::{Ask, Batch};
 use crate::list_table::{Bearer, ListFile, ListTable, Plan};
 use crate::words::{Way, Word, add_prefixes};
 use std::alloc::AllocError;
 
-/// A path has at most so many bytes.
+/// The maximum number of bytes of a path.
 pub const LONGEST: usize = 4_096;
 
-/// So many names a file may be hidden under.
+/// How many candidates a file may be hidden under.
 const CANDIDATES: u32 = 10;
 
 impl ListTable {
-    /// Nothing is taken yet.
+    /// A plan that needs nothing yet.
     fn empty_plan(&self, ask: Ask) -> Plan {
         Plan {
             ask,
@@ -37,7 +37,7 @@ impl ListTable {
         Ok(plan)
     }
 
-    /// An entry is promised for the name, and a birth where no node stands there.
+    /// An entry is promised for the name, and a birth if it has no node.
     fn name_plan(&self, ask: Ask, parent: u64, way: &Way, word: Word) -> Result<Plan, AllocError> {
         let path = way.below(word)?;
         let mut plan = self.node_plan(ask, parent, &path)?;
@@ -63,7 +63,7 @@ impl ListTable {
         Ok(plan)
     }
 
-    /// The node at the path, if a file of it is open.
+    /// The node at the path, if it has an open file.
     fn open_at(&self, way: &Way) -> Option<Bearer> {
         let bearer = self.at(way)?.bearer();
         if self.openings(bearer) > 0 {
@@ -73,7 +73,7 @@ impl ListTable {
         }
     }
 
-    /// Adds the names in the folder that the file of the node may be hidden under.
+    /// Adds the candidates in the folder under which the file of the node may be hidden.
     fn add_candidates(
         &self,
         plan: &mut Plan,
@@ -116,8 +116,8 @@ impl ListTable {
         Ok(plan)
     }
 
-    /// The move of the one name to the other, each under its parent's path, or their exchange. A move alone may hide, and only where it
-    /// need not keep what stands at the other.
+    /// Moving the one name to the other, each under its parent's path, or exchanging them. Only a move may hide, and
+    /// only if it need not keep what is at its target.
     fn move_plan(
         &self,
         ask: Ask,
@@ -157,7 +157,7 @@ impl ListTable {
         }
     }
 
-    /// What holds for a node that is named.
+    /// What closing a file of a node with a name needs.
     fn closing_plan(
         &self,
         ask: Ask,
@@ -177,7 +177,7 @@ impl ListTable {
         Ok(plan)
     }
 
-    /// A node that is cut, or whose path is too long, is not given, and nothing is held.
+    /// A node that is cut, or whose path is too long, is not named, and nothing is held.
     fn release_plan(&self, ask: Ask, number: u64, handle: u64) -> Result<Plan, AllocError> {
         let last = match self.file(handle) {
             Some(file) => self.is_last(file),
@@ -195,7 +195,7 @@ impl ListTable {
         Ok(plan)
     }
 
-    /// What is promised to a LOOKUP, and a file.
+    /// What a LOOKUP is promised, and a file.
     fn create_plan(
         &self,
         ask: Ask,
@@ -222,7 +222,7 @@ impl ListTable {
         Ok(Some(plan))
     }
 
-    /// What is asked for of one node that is named.
+    /// What is needed for one node with a name.
     fn plan_at(&self, ask: Ask, number: u64, way: &Way) -> Result<Plan, AllocError> {
         match ask {
             Ask::Name(_, word) => self.name_plan(ask, number, way, word),
@@ -234,7 +234,7 @@ impl ListTable {
         }
     }
 
-    /// What the request takes, or nothing where a number that it names is unknown or cut.
+    /// What the request needs, or nothing if a number that it names is unknown or cut.
     pub fn plan(&self, ask: Ask) -> Result<Option<Plan>, AllocError> {
         match ask {
             Ask::Release(number, handle) => Ok(Some(self.release_plan(ask, number, handle)?)),

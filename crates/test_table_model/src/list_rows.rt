@@ -1,4 +1,4 @@
-//! Worked rows of the list table alone: what its rules foretell, step by step.
+//! Rows of the list table alone, worked out by hand from its rules.
 
 use crate::asks::Ask::{Create, Move, Name, Node, Open, Release, Remove};
 use crate::asks::End::{Done, Entry, Failed, Hidden, HiddenMove};
@@ -14,7 +14,7 @@ use errno::{EBADF, EINVAL, ENFILE, ENOTEMPTY, ESTALE};
 use std::test::Fail;
 use table::{Access, Limits};
 
-/// Of five lookups that are given back two were there. The next birth of the number has another generation.
+/// Of five lookups to be forgotten there were two. The next birth of the number has another generation.
 const FORGET_ABOVE_COUNT: Row = Row {
     limits: DEFAULT,
     steps: &[
@@ -43,7 +43,7 @@ const FORGET_ABOVE_COUNT: Row = Row {
     ],
 };
 
-/// An entry that was not taken goes back, unless it was forgotten before. Until the settle the number is pinned.
+/// An entry that was not taken is given back, unless it was forgotten before. Until the settle the number is pinned.
 const UNTAKEN_ENTRIES: Row = Row {
     limits: DEFAULT,
     steps: &[
@@ -70,8 +70,9 @@ const UNTAKEN_ENTRIES: Row = Row {
     ],
 };
 
-/// A folder `a` with `b` in it, which has the numbers 2 and 3. It does not go below itself, nor what is in it onto it. It is moved to `e`,
-/// and both are cut where `e` is removed; then a count is all that keeps them. Names that are held are waited for.
+/// A folder `a` with `b` in it, which have the numbers 2 and 3. It cannot be moved below itself, nor what is in it onto
+/// it. It is moved to `e`, and both are cut when `e` is removed; then only a count keeps them alive. Requests wait for
+/// names that are held.
 const MOVES: Row = Row {
     limits: DEFAULT,
     steps: &[
@@ -111,7 +112,7 @@ const MOVES: Row = Row {
     ],
 };
 
-/// A file is opened twice and then removed, so that it is hidden. Its last release removes it.
+/// A file is opened twice and then removed, so it is hidden. The release of its last handle removes it.
 const HIDING: Row = Row {
     limits: DEFAULT,
     steps: &[
@@ -144,7 +145,7 @@ const HIDING: Row = Row {
     postings: &[Born((2, 0)), Given((2, 0))],
 };
 
-/// The target of a move is open. It is hidden, and then the move fails. What the mark keeps stays without a count.
+/// The target of a move is open. It is hidden, and then the move fails. A node with a mark stays alive without a count.
 const HIDDEN_TARGET: Row = Row {
     limits: DEFAULT,
     steps: &[
@@ -178,7 +179,7 @@ const HIDDEN_TARGET: Row = Row {
     ],
 };
 
-/// Three postings are kept free for an entry, and one for each count.
+/// Three postings are reserved for an entry, and one for each count.
 const FEW_POSTINGS: Row = Row {
     limits: Limits {
         postings: 6,
@@ -199,7 +200,7 @@ const FEW_POSTINGS: Row = Row {
     postings: &[Born((2, 0)), Given((2, 0)), Forgotten((2, 0), 1)],
 };
 
-/// Two nodes with the root, of which both are there or promised.
+/// There may be two nodes including the root, and both exist or are promised.
 const FEW_NODES: Row = Row {
     limits: Limits {
         nodes: 2,
@@ -228,7 +229,7 @@ fn rows(rt: HostRuntime) -> Result<(), Fail> {
     tell(rt.alloc(), 6, FEW_NODES)
 }
 
-/// Two that share a path, and one that holds another alone.
+/// Two requests share a path, and one holds another path exclusively.
 #[test]
 fn hold_numbers(rt: HostRuntime) -> Result<(), Fail> {
     let mut table = ListTable::open(rt.alloc(), DEFAULT)?;

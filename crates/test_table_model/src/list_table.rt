@@ -1,5 +1,5 @@
-//! A table over plain lists: slow, and written from the rules of the table alone. Each node keeps its whole path, each count is a
-//! sum over the ledger, and what is held is counted over the requests.
+//! A table over plain lists: slow, and written only from the rules of the table. Each node stores its whole path, each
+//! count is a sum over the ledger, and what is held is counted over the requests.
 
 use crate::asks::Ask;
 use crate::words::{Way, Word, is_among};
@@ -72,20 +72,20 @@ pub struct ListFile {
     pub access: Access,
 }
 
-/// What a request goes by from its begin to its finish.
+/// What a request needs from its begin to its finish.
 #[derive(Drop)]
 pub struct Plan {
     pub ask: Ask,
     /// The nodes that it names.
     pub given: Vec<u64>,
-    /// Those of its ticket.
+    /// The paths of its ticket.
     pub ways: Vec<Way>,
     pub shared: Vec<Way>,
     pub exclusive: Vec<Way>,
     pub same: bool,
     pub hide: bool,
     pub last: bool,
-    /// So many nodes, entries and open files it was promised.
+    /// How many nodes, entries and open files it was promised.
     pub births: u64,
     pub entries: u64,
     pub files: u64,
@@ -96,11 +96,11 @@ pub struct Plan {
 pub struct ListRequest {
     pub id: u64,
     pub unique: u64,
-    /// Whether it is worked on. Else it was answered.
+    /// Whether it is in progress. Otherwise it was answered.
     pub working: bool,
     pub plan: Plan,
     pub pins: Vec<u64>,
-    /// For each of its names what was given.
+    /// What was given for each of its names.
     pub listed: Vec<Option<Bearer>>,
     pub opened: Option<u64>,
 }
@@ -124,15 +124,15 @@ pub struct ListTable {
     pub postings: Vec<Posted>,
     pub requests: Vec<ListRequest>,
     pub files: Vec<ListFile>,
-    /// That of the next hidden name.
+    /// The counter of the next hidden name.
     pub counter: u32,
-    /// The last that was given, or 0.
+    /// The last handle that was used, or 0.
     pub last_handle: u64,
     pub last_id: u64,
 }
 
 impl ListTable {
-    /// A table of the root alone.
+    /// A table with only the root.
     pub fn open(alloc: Global, limits: Limits) -> Result<ListTable, AllocError> {
         let mut nodes = Vec::new(alloc);
         nodes.push(ListNode {
@@ -154,12 +154,12 @@ impl ListTable {
         })
     }
 
-    /// The living node that bears the number.
+    /// The living node with this number.
     pub fn node(&self, number: u64) -> Option<&ListNode> {
         self.nodes.iter().find(|node| node.number == number)
     }
 
-    /// The path of the node that bears the number, if it is named.
+    /// The path of the node with this number, if it has a name.
     pub fn way_of(&self, number: u64) -> Option<&Way> {
         let node = self.node(number)?;
         node.way.as_ref()
@@ -170,7 +170,7 @@ impl ListTable {
         self.nodes.iter().find(|node| node.is_at(way))
     }
 
-    /// The parent's number, and the name, of a node that is named.
+    /// The parent's number and the name of a node, if it has a name.
     pub fn place_of(&self, node: &ListNode) -> Option<(u64, Word)> {
         let way = node.way.as_ref()?;
         let parent = self.nodes.iter().find(|other| other.is_parent_of(way))?;
@@ -200,7 +200,7 @@ impl ListTable {
         self.requests.iter().find(|request| request.id == id)
     }
 
-    /// How many of the requests that are worked on share the path, and how many hold it exclusively.
+    /// How many requests in progress share the path, and how many hold it exclusively.
     pub fn holds_on(&self, way: &Way) -> (u64, u64) {
         let shared = self.requests.iter().filter(|request| request.shares(way));
         let exclusive = self.requests.iter().filter(|request| request.excludes(way));

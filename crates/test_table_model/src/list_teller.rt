@@ -1,4 +1,4 @@
-//! Rows of the list table alone are told step by step.
+//! Running rows on the list table alone, step by step.
 
 use crate::asks::Step::{self, Begin, Finish, Forget, Settle};
 use crate::asks::Told;
@@ -23,7 +23,7 @@ pub const E: Word = Word::Plain {
     bytes: 1,
 };
 
-/// The first name that a file of node 2 is hidden under.
+/// The first candidate for a file of node 2.
 pub const HIDDEN: Word = Word::Hidden {
     number: 2,
     generation: 0,
@@ -50,7 +50,7 @@ pub const HIDE: Told = Told::Go {
     last: false,
 };
 
-/// The last opening of a hidden file was closed.
+/// The last handle of a hidden file was closed.
 pub const LAST: Told = Told::Go {
     same: false,
     hide: false,
@@ -112,11 +112,13 @@ pub const DEFAULT: Limits = Limits {
     files: 4_096,
 };
 
-/// A living node beside the root: its number, its generation, its path, if it is named, its count, and whether it has a mark.
+/// A living node other than the root: its number, its generation, its path, if it has a name, its count, and whether it
+/// has a mark.
 #[derive(Clone, Copy, Debug)]
 pub struct Living<'a>(pub u64, pub u64, pub Option<&'a [Word]>, pub u64, pub bool);
 
-/// What is asked of a new table, with what each call tells, and what there is at the end. Requests bear the ids 1, 2, 3 and so on.
+/// Steps for a new table with the expected results, and what there must be at the end. Requests have the ids 1, 2, 3
+/// and so on.
 #[derive(Clone, Copy)]
 pub struct Row<'a> {
     pub limits: Limits,
@@ -147,7 +149,7 @@ fn is_there(table: &ListTable, node: &ListNode, living: Living) -> bool {
         && table.count(node.bearer()) == count
 }
 
-/// Whether some node is so.
+/// Whether there is such a node.
 fn has(table: &ListTable, living: Living) -> bool {
     for node in &table.nodes {
         if is_there(table, node, living) {
@@ -157,7 +159,7 @@ fn has(table: &ListTable, living: Living) -> bool {
     false
 }
 
-/// How many of these are there.
+/// How many of these there are.
 fn how_many(table: &ListTable, nodes: &[Living]) -> usize {
     let mut there = 0usize;
     for living in nodes {
@@ -168,7 +170,7 @@ fn how_many(table: &ListTable, nodes: &[Living]) -> usize {
     there
 }
 
-/// Takes the steps of a row. Fails at the first that comes otherwise.
+/// Takes the steps of a row. Fails at the first unexpected result.
 fn take_all(table: &mut ListTable, which: usize, steps: &[(Step, Told)]) -> Result<(), Fail> {
     for (place, (step, said)) in steps.iter().enumerate() {
         let told = take(table, *step)?;
@@ -179,7 +181,7 @@ fn take_all(table: &mut ListTable, which: usize, steps: &[(Step, Told)]) -> Resu
     Ok(())
 }
 
-/// Fails at the first step of a row, by its place, that comes otherwise, or where something else is there at the end.
+/// Fails at the first step of a row with an unexpected result, by its index, or if something else is there at the end.
 pub fn tell(alloc: Global, which: usize, row: Row) -> Result<(), Fail> {
     let mut table = ListTable::open(alloc, row.limits)?;
     take_all(&mut table, which, row.steps)?;

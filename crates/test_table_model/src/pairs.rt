@@ -1,4 +1,4 @@
-//! Numbers of the one table beside those of the other, with their generations, paired in the order of births.
+//! Pairs of numbers, with their generations, in the two tables, in the order of births.
 
 use crate::draws::LONG;
 use crate::list_table::{Bearer, ROOT};
@@ -13,11 +13,11 @@ struct Pair {
     other: Bearer,
 }
 
-/// All that were ever born, the root first.
+/// All nodes that were ever born, the root first.
 #[derive(Drop)]
 pub struct Pairs {
     pairs: Vec<Pair>,
-    /// The longest name that is drawn, made once.
+    /// The longest name that is used, made only once.
     longest: Name,
 }
 
@@ -37,7 +37,7 @@ fn plain_name(alloc: Global, letter: char, bytes: usize) -> Result<Name, AllocEr
 }
 
 impl Pairs {
-    /// The root alone.
+    /// Only the root.
     pub fn new(alloc: Global, longest: usize) -> Result<Pairs, AllocError> {
         let mut pairs = Pairs {
             pairs: Vec::new(alloc),
@@ -47,13 +47,13 @@ impl Pairs {
         Ok(pairs)
     }
 
-    /// The next birth of each.
+    /// Adds the next birth of each.
     pub fn add(&mut self, list: Bearer, other: Bearer) -> Result<(), AllocError> {
         self.pairs.push(Pair { list, other })?;
         Ok(())
     }
 
-    /// What the other table has for that of the list table.
+    /// The other table's number and generation for those of the list table.
     pub fn of(&self, list: Bearer) -> Option<Bearer> {
         let pair = self.pairs.iter().find(|pair| pair.list == list)?;
         Some(pair.other)
@@ -64,7 +64,7 @@ impl Pairs {
         self.of(list) == Some(other)
     }
 
-    /// The name as the other table has it.
+    /// The name in the other table.
     pub fn name(&self, word: Word) -> Result<Name, AllocError> {
         let alloc = *self.pairs.allocator();
         match word {
@@ -83,7 +83,7 @@ impl Pairs {
         }
     }
 
-    /// The path as the other table has it.
+    /// The path in the other table.
     pub fn path(&self, way: &Way) -> Result<Path, AllocError> {
         let mut names = Vec::new(*self.pairs.allocator());
         for word in &way.words {

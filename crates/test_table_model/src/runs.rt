@@ -1,4 +1,4 @@
-//! Ten thousand steps of both tables.
+//! Ten thousand steps on both tables.
 
 use crate::both_runs::{Drive, Manner, drive_both};
 use crate::draws::Draws;
@@ -9,7 +9,7 @@ use table::{Counts, Limits};
 
 const STEPS: usize = 10_000;
 
-/// The limits that hold where a run is not about them.
+/// The limits for runs that are not about limits.
 const DEFAULT: Limits = Limits {
     nodes: 65_536,
     postings: 1_048_576,
@@ -26,7 +26,7 @@ const FEW: Limits = Limits {
     ..DEFAULT
 };
 
-/// All that is told of requests and their ends, but of paths that are too long.
+/// All results of requests and their ends, except for paths that are too long.
 const MUCH: &[Came] = &[
     Came::Begun,
     Came::Same,
@@ -46,7 +46,7 @@ const MUCH: &[Came] = &[
     Came::Forgotten,
 ];
 
-/// Names of one byte, from that seed.
+/// Names of one byte, with that seed.
 fn short(seed: u64) -> Draws {
     Draws {
         x: seed,
@@ -87,7 +87,7 @@ fn biased_steps(rt: HostRuntime) -> Result<(), Fail> {
     )
 }
 
-/// Names so long that a path has at most two of them.
+/// Names so long that a path can have at most two of them.
 #[test]
 fn biased_steps_with_long_names(rt: HostRuntime) -> Result<(), Fail> {
     drive_both(
@@ -123,7 +123,7 @@ fn biased_steps_with_few_postings(rt: HostRuntime) -> Result<(), Fail> {
     )
 }
 
-/// Counts that are free, in periods so short that they end for want of room.
+/// Free counts, with periods so short that they end for lack of room.
 #[test]
 fn biased_steps_with_free_counts(rt: HostRuntime) -> Result<(), Fail> {
     drive_both(

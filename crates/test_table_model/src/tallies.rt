@@ -1,9 +1,9 @@
-//! What a run came to, and how often.
+//! The results of a run, and how often each came.
 
 use crate::asks::{Step, Told};
 use std::alloc::{AllocError, Global};
 
-/// What a call came to.
+/// The result of a call.
 #[derive(Clone, Copy, Debug, PartialEq, Eq)]
 pub enum Came {
     Begun,
@@ -11,7 +11,7 @@ pub enum Came {
     Same,
     /// A file may be hidden.
     MayHide,
-    /// The last opening of a hidden file was closed.
+    /// The last handle of a hidden file was closed.
     Last,
     Busy,
     Refused(i32),
@@ -24,7 +24,7 @@ pub enum Came {
     Nothing,
 }
 
-/// What the call came to, by what it told.
+/// The result of a call, from what it returned.
 fn event_of(step: Step, told: Told) -> Came {
     match told {
         Told::Go { same: true, .. } => Came::Same,
@@ -46,7 +46,7 @@ fn event_of(step: Step, told: Told) -> Came {
     }
 }
 
-/// All that a run came to, the oldest first.
+/// All results of a run, oldest first.
 #[derive(Drop)]
 pub struct Tallies {
     all: Vec<Came>,
@@ -64,7 +64,7 @@ impl Tallies {
         Ok(())
     }
 
-    /// The first of these that came less than so often, with how often it came.
+    /// The first of these that came fewer times, with how many times it came.
     pub fn too_few(&self, expected: &[Came], least: usize) -> Option<(Came, usize)> {
         for one in expected {
             let times = self.all.iter().filter(|came| **came == *one).count();

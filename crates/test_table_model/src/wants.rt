@@ -1,4 +1,4 @@
-//! What is asked of the list table, as it is asked of the other.
+//! Turning requests for the list table into requests for the other.
 
 use crate::asks::{Ask, Batch};
 use crate::both::Both;
@@ -6,22 +6,22 @@ use ledger::Ledgers;
 use std::alloc::AllocError;
 use table::{Handle, Names, Need, Want};
 
-/// Above all numbers that a table comes to in a run.
+/// Above all numbers that a table uses in a run.
 const STRANGE: u64 = 1_000_000;
 
-/// The handle, which both tables number alike.
+/// The handle, which has the same number in both tables.
 fn handle_of((fh, need): (u64, Need)) -> Handle {
     Handle { fh, need }
 }
 
 impl<T: Ledgers> Both<T> {
-    /// Whether the other table has a living node of that number.
+    /// Whether the other table has a living node with that number.
     fn is_known(&self, number: u64) -> bool {
         let list = &self.list;
         list.nodes.iter().any(|node| self.pairs.number(list, node.number) == Some(number))
     }
 
-    /// The other table's number of a node that lives. One that no node bears is unknown to both.
+    /// The other table's number of a living node. A number without a node is unknown to both.
     pub fn number(&self, number: u64) -> u64 {
         match self.pairs.number(&self.list, number) {
             Some(other) => other,
@@ -39,7 +39,7 @@ impl<T: Ledgers> Both<T> {
         Ok(Names::from_vec(names))
     }
 
-    /// What is asked of the other table.
+    /// The want for the other table.
     pub fn want(&self, ask: Ask) -> Result<Want, AllocError> {
         Ok(match ask {
             Ask::Node(number, handle) => Want::Node {

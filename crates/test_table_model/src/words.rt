@@ -1,15 +1,15 @@
-//! Names and ways that are plain values. A way is a path: the names from the root down.
+//! Names and ways as plain values. A way is a path: the names from the root down.
 
 use std::alloc::{AllocError, Global};
 
-/// A name: so many times one letter, or one that the table gives to a file that it hides.
+/// A name: one letter repeated that many times, or one that the table gives to a file that it hides.
 #[derive(Clone, Copy, Debug, PartialEq, Eq)]
 pub enum Word {
     Plain {
         letter: char,
         bytes: usize,
     },
-    /// Of the node of that number and generation, by a counter.
+    /// Of the node with that number and generation, with a counter.
     Hidden {
         number: u64,
         generation: u64,
@@ -52,14 +52,14 @@ impl Way {
         Way::of(*self.words.allocator(), self.words.as_slice())
     }
 
-    /// The path one name further down.
+    /// The path with one more name.
     pub fn below(&self, word: Word) -> Result<Way, AllocError> {
         let mut way = self.copy()?;
         way.words.push(word)?;
         Ok(way)
     }
 
-    /// The path without its last name. The root's is its own.
+    /// The path without its last name. The root's path is its own parent.
     pub fn parent(&self) -> Result<Way, AllocError> {
         let mut way = self.copy()?;
         let _last = way.words.pop();
@@ -91,12 +91,12 @@ impl Way {
         self.words.len() < other.words.len() && self.is_prefix_of(other)
     }
 
-    /// Whether the other path is this one and one name more.
+    /// Whether the other path is this one with one more name.
     pub fn is_parent_of(&self, other: &Way) -> bool {
         self.words.len().saturating_add(1) == other.words.len() && self.is_prefix_of(other)
     }
 
-    /// One byte and its name's bytes for each name.
+    /// The length of each name plus one, summed over all names.
     pub fn bytes(&self) -> usize {
         let mut sum = 0usize;
         for word in &self.words {
@@ -105,7 +105,7 @@ impl Way {
         sum
     }
 
-    /// The path with another prefix in place of that one, with which it begins.
+    /// The path with another prefix in place of this one, with which it begins.
     pub fn with_prefix(&self, old: &Way, new: &Way) -> Result<Way, AllocError> {
         let mut way = new.copy()?;
         let rest = self.words.get(old.words.len()..).unwrap_or(&[]);
@@ -126,7 +126,7 @@ pub fn add_once(ways: &mut Vec<Way>, way: Way) -> Result<(), AllocError> {
     Ok(())
 }
 
-/// Adds each nonempty prefix of the path that is not there yet, the path itself among them.
+/// Adds each nonempty prefix of the path that is not there yet, including the path itself.
 pub fn add_prefixes(ways: &mut Vec<Way>, way: &Way) -> Result<(), AllocError> {
     let mut prefix = Way::of(*ways.allocator(), &[])?;
     for word in &way.words {

@@ -1,4 +1,4 @@
-//! Handles rise, and none is given twice.
+//! Handles rise, and none is used twice.
 
 use std::test::Fail;
 use table_files::{Access, Files, Need, OpenFile};
@@ -11,7 +11,7 @@ fn file_of(number: u64, access: Access) -> OpenFile {
     }
 }
 
-/// How often the first file is open, whether it is, how many files are open, and how many handles are left.
+/// How many times the first file is open, whether it is open, how many files are open, and how many handles are left.
 fn counts(files: &Files) -> (u64, bool, usize, u64) {
     (
         files.openings(2),
@@ -34,7 +34,7 @@ fn a_closed_handle_is_not_given_again(rt: HostRuntime) -> Result<(), Fail> {
     let third = files.open(file_of(5, Access::Writing));
     let found = [files.get(third), files.get(second)];
     let last = counts(&files);
-    // What is told outlives the files: each assertion would else have them to drop.
+    // The results outlive the files, since otherwise each assertion would have to drop the files.
     drop(files);
     assert_eq!(rt; [first, second, third], [1, 2, 3]);
     assert_eq!(rt; closed, [Some(file_of(2, Access::Both)), None]);

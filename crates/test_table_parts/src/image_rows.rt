@@ -1,4 +1,4 @@
-//! Images made by hand, lawful and not.
+//! Lawful and unlawful images, made by hand.
 
 use crate::sketch::{Living, NO_PAST, Past, ROOT, Sketch, Spot, image};
 use ledger::{KeptBirths, Posting, Totals};
@@ -48,7 +48,7 @@ const OPENING: Posting = Posting::Opening {
     count: 2,
 };
 
-/// Number 2 was born twice, and of three entries one came back.
+/// Number 2 was born twice, and of three entries one was given back.
 const PAST: Past = Past {
     births: &[KeptBirths {
         number: 2,
@@ -376,7 +376,7 @@ const UNLAWFUL: &[(&str, Sketch)] = &[
     ),
 ];
 
-/// Fails at the first sketch that is judged otherwise.
+/// Fails at the first sketch with another verdict.
 fn judge(alloc: Global, sketches: &[(&str, Sketch)], are_lawful: bool) -> Result<(), Fail> {
     for (name, sketch) in sketches {
         if image(alloc, sketch)?.lawful() != are_lawful {
@@ -396,7 +396,7 @@ fn images_are_not_lawful(rt: HostRuntime) -> Result<(), Fail> {
     judge(rt.alloc(), UNLAWFUL, false)
 }
 
-/// The same image as the struct of before has it.
+/// The same image in the form of an earlier version.
 fn before(image: Image) -> ImageOne {
     ImageOne {
         nodes: image.nodes,
@@ -425,20 +425,21 @@ const OPENED: Sketch = Sketch {
     opened: &[],
 };
 
-/// Whether nothing is closed in an image, and these are its postings.
+/// Whether no period is closed in an image, and these are its postings.
 fn is_unclosed(image: &Image, postings: &[Posting]) -> bool {
     image.births.as_slice().is_empty()
         && image.closed == Totals::nothing()
         && image.postings.as_slice() == postings
 }
 
-/// An image of before that is taken over: whether it is lawful, and whether nothing is closed in it and its postings are as they were.
+/// An image of an earlier version that is taken over: whether it is lawful, and whether no period is closed in it and
+/// its postings are unchanged.
 fn take_over(alloc: Global, said: &Sketch) -> Result<(bool, bool), Fail> {
     let taken = Image::take_over(before(image(alloc, said)?));
     Ok((taken.lawful(), is_unclosed(&taken, said.postings)))
 }
 
-/// Nothing was closed then, so that an opening is never lawful.
+/// In that version no period was closed, so an opening is never lawful.
 #[test]
 fn images_of_before_are_taken_over(rt: HostRuntime) -> Result<(), Fail> {
     assert_eq!(rt; take_over(rt.alloc(), &BEFORE)?, (true, true));

@@ -1,4 +1,4 @@
-//! Each call once where memory is ample, with the values that the rules of the ledger give.
+//! Each call once with ample memory, with the values that follow from the rules of the ledger.
 ghost use Rattle.std.specs.Prelude.{◌≡◌};
 ghost use Rattle.ledger.specs.declared.postings.Posting.TheVariants.{Born};
 
@@ -28,7 +28,7 @@ const FORGET: Posting = Posting::Forget {
     amount: 1,
 };
 
-/// A ledger of a birth, two entries and a forget, for which it has just room.
+/// A ledger with a birth, two entries and a forget, and just enough room for them.
 fn posted(alloc: Global) -> Result<Ledger, LedgerFault> {
     let mut ledger = Ledger::new(alloc, 4);
     ledger.reserve(4, 1)?;
@@ -45,7 +45,7 @@ const fn born(number: u64, generation: u64) -> Posting
     Posting::Born { number, generation }
 }
 
-/// A ledger of births that come in no order: 7, 3, 9, 3 again, and 5.
+/// A ledger with births in no particular order: 7, 3, 9, 3 again, and 5.
 fn scattered(alloc: Global) -> Result<Ledger, LedgerFault> {
     let mut ledger = Ledger::new(alloc, 5);
     ledger.reserve(5, 5)?;
@@ -96,7 +96,7 @@ fn one_of_two_entries_is_left(rt: HostRuntime) -> Result<(), Fail> {
     Ok(())
 }
 
-// The first share posts a birth, two entries and a give-back, and the second, unless it is left, a forget.
+// The first share posts a birth, two entries and a give-back; the second posts a forget, unless it is given up.
 fn gathered<T: Ledgers>(
     alloc: Global,
     blanks: Blanks,

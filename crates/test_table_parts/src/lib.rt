@@ -1,5 +1,5 @@
-//! Rows of the parts that stand below the table: paths, hidden names, the ledger and its book, the tree of nodes, open files, requests in flight and images. The
-//! crate is of tests alone.
+//! Tests of the parts below the table: paths, hidden names, the ledger and its book, the tree of nodes, open files,
+//! requests in flight and images. This crate has only tests.
 #![tactic(auto)]
 
 #[cfg(test)]

@@ -17,7 +17,7 @@ fn two_names(alloc: Global) -> Result<Path, AllocError>
     Path::from_names(names)
 }
 
-/// Whether the name and its copy are spelt so.
+/// Whether the name and its copy have that text.
 fn keeps(alloc: Global, text: &str) -> Result<bool, AllocError> {
     let name = Name::copy_of(alloc, text)?;
     let copy = name.copy()?;
@@ -29,7 +29,7 @@ const LONG: &str = "abcdefghijklmnopqrstuvwxyz-abcdefghijklmnopqrstuvwxyz-abcdef
 
 #[test]
 fn a_name_of_each_form_is_spelt_as_it_came(rt: HostRuntime) -> Result<(), Fail> {
-    // 22 bytes lie in the name, 72 in an allocation of one size.
+    // 22 bytes are stored in the name itself, and 72 in one allocation of fixed size.
     let alloc = rt.alloc();
     assert!(rt; keeps(alloc, "")? && keeps(alloc, &LONG[..22])? && keeps(alloc, &LONG[..23])?);
     assert!(rt; keeps(alloc, &LONG[..72])? && keeps(alloc, LONG)?);

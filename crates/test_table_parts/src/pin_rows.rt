@@ -1,20 +1,21 @@
-//! Numbers that requests in flight pin. Small ones are counted in a list, and the list is made longer as numbers rise; the pins of others are loose.
+//! Numbers that requests in flight pin. Small ones are counted in a list, which is made longer as numbers rise; the
+//! pins of others are loose.
 
 use std::alloc::{AllocError, Global};
 use std::hash::RandomState;
 use std::test::Fail;
 use table_requests::{Pins, RequestInFlight, RequestsInFlight, Stage};
 
-/// The least number that no list is made longer for.
+/// The least number for which the list is never made longer.
 const LOOSE: u64 = 1 << 28;
 
-/// Numbers that no list reaches.
+/// Numbers that the list never reaches.
 const FAR: &[u64] = &[LOOSE, 1 << 40, u64::MAX];
 
 enum Step<'a> {
-    /// One more is in flight, and pins these. The first has the id 0, the next one 1.
+    /// One more request is in flight, with these pins. The first one has the id 0, the next one 1.
     Add(&'a [u64]),
-    /// The request with the id goes.
+    /// The request with this id is removed.
     Take(u64),
     /// All of these are pinned.
     Pinned(&'a [u64]),
@@ -30,7 +31,7 @@ fn pins_of(alloc: Global, numbers: &[u64]) -> Result<Pins, AllocError> {
     Ok(pins)
 }
 
-/// A request is in flight that was answered, and pins these.
+/// Adds an answered request with these pins.
 fn add(alloc: Global, requests: &mut RequestsInFlight, numbers: &[u64]) -> Result<(), AllocError> {
     let pins = pins_of(alloc, numbers)?;
     requests.reserve()?;
@@ -48,7 +49,7 @@ fn add(alloc: Global, requests: &mut RequestsInFlight, numbers: &[u64]) -> Resul
     })
 }
 
-/// Whether the step comes to what it must.
+/// Whether the step has the right result.
 fn holds(alloc: Global, requests: &mut RequestsInFlight, step: &Step) -> Result<bool, AllocError> {
     match *step {
         Step::Add(numbers) => {
@@ -61,7 +62,7 @@ fn holds(alloc: Global, requests: &mut RequestsInFlight, step: &Step) -> Result<
     }
 }
 
-/// Fails at the first step that comes to something else.
+/// Fails at the first step with a wrong result.
 fn tell(alloc: Global, requests: &mut RequestsInFlight, steps: &[Step]) -> Result<(), Fail> {
     for (place, step) in steps.iter().enumerate() {
         if !holds(alloc, requests, step)? {
@@ -76,7 +77,7 @@ fn run(rt: &HostRuntime, steps: &[Step]) -> Result<(), Fail> {
     tell(rt.alloc(), &mut requests, steps)
 }
 
-/// Two pin the number 1, one of them twice.
+/// Two requests pin the number 1, one of them twice.
 const COUNTED: &[Step] = &[
     Step::Free(&[0, 1, 2]),
     Step::Add(&[1, 0, 1]),
@@ -102,7 +103,7 @@ const BEYOND: &[Step] = &[
     Step::Free(FAR),
 ];
 
-/// The list reaches 3,000 for the second request, and not for the first. The first goes before the second.
+/// The list reaches 3,000 for the second request, but not for the first. The first is removed before the second.
 const FIRST_GOES: &[Step] = &[
     Step::Add(&[3_000]),
     Step::Pinned(&[3_000]),
@@ -114,7 +115,7 @@ const FIRST_GOES: &[Step] = &[
     Step::Free(&[3_000]),
 ];
 
-/// The same, but the second goes before the first, and the list is made longer once more.
+/// The same, but the second is removed before the first, and the list is made longer once more.
 const SECOND_GOES: &[Step] = &[
     Step::Add(&[3_000]),
     Step::Add(&[3_000]),
@@ -138,7 +139,7 @@ fn numbers_are_pinned_until_all_requests_went(rt: HostRuntime) -> Result<(), Fai
     Ok(())
 }
 
-/// A thousand requests, each with a pin that is loose and with one that is counted; every other one goes.
+/// A thousand requests, each with a loose pin and a counted one; every other request is removed.
 fn halve(alloc: Global, requests: &mut RequestsInFlight) -> Result<(), AllocError> {
     for i in 0..1_000 {
         add(alloc, requests, &[LOOSE + i, i])?;

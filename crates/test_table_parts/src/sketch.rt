@@ -1,4 +1,4 @@
-//! Images that are made from sketches.
+//! Making images from sketches.
 
 use holds::{GivenPaths, Held, Paths};
 use ledger::{KeptBirths, Posting, Totals};
@@ -10,7 +10,7 @@ use table_image::{
 };
 use tree::{Key, Node, Place};
 
-/// Where a node stands.
+/// Where a node is.
 #[derive(Clone, Copy)]
 pub enum Spot<'a> {
     Root,
@@ -19,13 +19,13 @@ pub enum Spot<'a> {
     Cut,
 }
 
-/// A node: its number, its generation, where it stands, and its count. None is hidden.
+/// A node: its number, its generation, where it is, and its count. None is hidden.
 #[derive(Clone, Copy)]
 pub struct Living<'a>(pub u64, pub u64, pub Spot<'a>, pub u64);
 
 pub const ROOT: Living = Living(1, 0, Spot::Root, 0);
 
-/// What is kept of periods that are closed: how often each number was born, and the totals.
+/// What is kept of closed periods: how often each number was born, and the totals.
 pub struct Past<'a> {
     pub births: &'a [KeptBirths],
     pub totals: Totals,
@@ -42,9 +42,9 @@ pub const NO_PAST: Past = Past {
     },
 };
 
-/// The nodes, what is closed, the postings, the oldest first, and the requests, whose work goes on: of each its id, and the
-/// number that it pins; and the open files: of each its handle, and the number and the generation of its node. No name is held,
-/// and the last handle is 2.
+/// The nodes, what is kept of closed periods, the postings, oldest first, the requests in progress, each with its id
+/// and the number that it pins, and the open files, each with its handle and the number and the generation of its node.
+/// No name is held, and the last handle is 2.
 pub struct Sketch<'a> {
     pub nodes: &'a [Living<'a>],
     pub past: Past<'a>,
@@ -75,7 +75,7 @@ fn node(alloc: Global, living: &Living) -> Result<Node, AllocError> {
     })
 }
 
-/// A request whose work goes on, and that pins the number.
+/// A request in progress that pins the number.
 fn pinning(alloc: Global, id: u64, number: u64) -> Result<Record, AllocError> {
     let mut pins = Numbers::new(alloc);
     pins.add(number)?;
@@ -123,7 +123,7 @@ fn files_of(alloc: Global, opened: &[(u64, u64, u64)]) -> Result<OpenFiles, Allo
     Ok(all)
 }
 
-/// The image that is sketched so.
+/// The image for this sketch.
 pub fn image(alloc: Global, sketch: &Sketch) -> Result<Image, AllocError> {
     Ok(Image {
         nodes: nodes_of(alloc, sketch.nodes)?,

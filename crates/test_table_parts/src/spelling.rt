@@ -1,4 +1,4 @@
-//! Names as they are spelt.
+//! Comparing names with texts.
 
 use paths::Name;
 

@@ -7,7 +7,7 @@ use std::hash::RandomState;
 use std::test::Fail;
 use tree::{Key, Tree};
 
-/// A node is born at the name.
+/// Creates a node at the name.
 fn plant(tree: &mut Tree, alloc: Global, parent: u64, name: &str) -> Result<u64, Fail> {
     tree.path(alloc, parent)?;
     let key = Key {
@@ -25,7 +25,8 @@ fn plant(tree: &mut Tree, alloc: Global, parent: u64, name: &str) -> Result<u64,
     Ok(tree.birth(0, key, copy))
 }
 
-/// A file in a folder: how many nodes live then, the bytes of its path, and whether it has these names and no node more may be born.
+/// A file in a folder: how many nodes are alive afterwards, the bytes of its path, and whether it has these names and
+/// no more nodes may be born.
 fn tell_file(
     tree: &mut Tree,
     alloc: Global,
@@ -50,7 +51,7 @@ fn path_of_a_file_in_a_folder(rt: HostRuntime) -> Result<(), Fail> {
     Ok(())
 }
 
-/// The bytes of the path of a name that is absent in a folder, and whether it has these names.
+/// The bytes of the path of a name that does not exist in a folder, and whether it has these names.
 fn tell_absent(
     tree: &mut Tree,
     alloc: Global,

@@ -1,4 +1,4 @@
-//! The two halves of a client that is scripted.
+//! The two halves of a scripted client.
 
 ghost use Rattle.std.specs.Prelude.{◌≡◌};
 
@@ -6,7 +6,7 @@ use engine::{LinkIn, LinkOut, Received, Sent};
 use std::alloc::Global;
 use std::sync::{Arc, Mutex, Wait};
 
-/// Gives its pieces one after another.
+/// Sends its pieces one after another.
 #[derive(Drop)]
 pub struct Asks<H: Wait + Drop> {
     pub rt: H,
@@ -17,7 +17,7 @@ pub struct Asks<H: Wait + Drop> {
 }
 
 impl<H: Wait + Drop> Asks<H> {
-    /// It has given nothing yet.
+    /// It has sent nothing yet.
     pub fn new(rt: H, heard: Arc<Mutex<Heard>>, pieces: Vec<Vec<u8>>) -> Asks<H> {
         Asks {
             rt,
@@ -58,16 +58,16 @@ impl<H: Wait + Drop> LinkIn for Asks<H> {
 pub enum Fates {
     /// All are taken.
     Taken,
-    /// One comes to this, and the others are taken.
+    /// That reply has this fate, and the others are taken.
     Reply(u32, Sent),
-    /// The same of those with an entry, whose frame has 144 bytes.
+    /// The same, counting only replies with an entry, whose frames have 144 bytes.
     Entry(u32, Sent),
-    /// One after another comes to these, and those after them are taken.
+    /// The first replies have these fates, in order, and those after them are taken.
     InTurn(&'static [Sent]),
 }
 
 impl Fates {
-    /// What becomes of a reply: it is the so many-th offered, and with an entry or not the so many-th of these.
+    /// What becomes of a reply: it is number `offers` of all, and number `entry` of those with an entry, if it has one.
     fn of(self, offers: u32, entry: Option<u32>) -> Sent {
         let (is_declined, fate) = match self {
             Fates::Taken => (false, Sent::Taken),
@@ -79,7 +79,7 @@ impl Fates {
     }
 }
 
-/// The fate of that number.
+/// The fate with that number.
 fn fate_in(fates: &[Sent], number: u32) -> Sent {
     let Some(index) = number.checked_sub(1) else {
         return Sent::Taken;
@@ -90,20 +90,20 @@ fn fate_in(fates: &[Sent], number: u32) -> Sent {
     }
 }
 
-/// What a client was asked for, and offered.
+/// What a client was asked for, and what it was offered.
 #[derive(Drop)]
 pub struct Heard {
     /// How many receives.
     pub receives: u32,
     /// How many replies.
     pub offers: u32,
-    /// How many of them with an entry.
+    /// How many replies with an entry.
     pub entries: u32,
-    /// Those that were taken, one after another.
+    /// The replies that were taken, one after another.
     pub bytes: Vec<u8>,
 }
 
-/// Takes replies, or does not.
+/// Takes replies, or declines them.
 #[derive(Drop)]
 pub struct Hears<H: Wait + Drop> {
     pub rt: H,

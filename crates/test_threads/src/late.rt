@@ -1,4 +1,4 @@
-//! A client that does not take its replies for a while.
+//! A client that for a while does not take its replies.
 
 ghost use Rattle.std.specs.Prelude.{◌≡◌};
 
@@ -13,13 +13,13 @@ use std::test::Fail;
 use std::thread;
 use wire::Operation::Lookup;
 
-/// How often the client looks whether the calls were made.
+/// How often the client polls before it gives up.
 const LOOKS: u32 = 10_000_000;
 
-/// How many calls it waits for: one an entry.
+/// How many calls it waits for: one per entry.
 const CALLS: u32 = 4;
 
-/// A hold on a tree that counts its calls with those of the others.
+/// A handle to a tree that counts its calls together with those of the other handles.
 #[derive(Drop)]
 struct Counted<H: Wait + Drop> {
     tree: Shared<H>,
@@ -42,16 +42,16 @@ impl<H: Wait + Drop> Calls for Counted<H> {
     }
 }
 
-/// Takes its first reply once all calls were made.
+/// Takes its first reply only when all calls have been made.
 #[derive(Drop)]
 struct Late<H: Wait + Drop> {
     hears: Hears<H>,
     calls: Arc<AtomicU32>,
-    /// Whether they were, when the first reply was taken.
+    /// 1 if they had been made when the first reply was taken, otherwise 0.
     were_made: Arc<AtomicU32>,
 }
 
-/// Waits for the calls.
+/// Waits until the calls have been made.
 fn wait_for(calls: &AtomicU32, were_made: &AtomicU32) {
     for _look in 0..LOOKS {
         if calls.load(Ordering::SeqCst) >= CALLS {
@@ -114,7 +114,8 @@ const FOUR: Story = Story {
     totals: Some((4, 0, 0)),
 };
 
-// Whoever offers the reply to INIT waits until the other thread has read and worked on all that comes after it.
+// The thread that offers the reply to INIT is blocked until the other thread has read the later requests and made their
+// calls.
 #[test]
 fn a_link_that_is_full_stops_no_work(rt: HostRuntime) -> Result<(), Fail> {
     let calls = Arc::new(rt.alloc(), AtomicU32::new(0))?;

@@ -1,4 +1,4 @@
-//! Sessions on threads, beside what a session on one thread would come to.
+//! Sessions on threads, compared with what a session on one thread would return.
 #![tactic(auto)]
 
 #[cfg(test)]

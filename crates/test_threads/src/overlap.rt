@@ -1,4 +1,4 @@
-//! Two workers are in calls of the directory at once.
+//! Two workers are in calls of the directory at the same time.
 
 use crate::client::Fates;
 use crate::teller::{Comes, Story, check_by, holds_of};
@@ -11,10 +11,10 @@ use std::test::Fail;
 use std::thread;
 use wire::Operation::{Destroy, Lookup, Unlink};
 
-/// How often a first call looks whether another has come.
+/// How often a first call polls before it gives up.
 const LOOKS: u32 = 10_000_000;
 
-/// A hold on a tree whose first call waits for the first call of another hold.
+/// A handle to a tree. Its first call waits for the first call of another handle.
 #[derive(Drop)]
 struct Meets<H: Wait + Drop> {
     tree: Shared<H>,
@@ -25,7 +25,7 @@ struct Meets<H: Wait + Drop> {
     met: Arc<AtomicU32>,
 }
 
-/// Waits for the first call of another hold, unless it was waited for before.
+/// Waits for the first call of another handle, unless it has waited already.
 fn meet(has_called: &mut bool, came: &AtomicU32, met: &AtomicU32) {
     if *has_called {
         return;
@@ -57,7 +57,7 @@ impl<H: Wait + Drop> Calls for Meets<H> {
     }
 }
 
-/// Each hold meets the others.
+/// Each handle waits for the others.
 fn meeting<H: Wait + Drop>(
     alloc: Global,
     holds: Vec<Shared<H>>,
@@ -76,7 +76,7 @@ fn meeting<H: Wait + Drop>(
     Ok(trees)
 }
 
-/// A hold on a tree whose calls take a while.
+/// A handle to a tree whose calls take a while.
 #[derive(Drop)]
 struct Slowed<H: Wait + Drop> {
     tree: Shared<H>,
@@ -119,7 +119,7 @@ const SAME_NAME: Story = Story {
     totals: Some((0, 0, 0)),
 };
 
-// One of them waits until the other has finished.
+// One of them waits until the other is done.
 #[test]
 fn a_request_waits_for_another(rt: HostRuntime) -> Result<(), Fail> {
     let mut trees = Vec::new(rt.alloc());
@@ -159,7 +159,7 @@ const ONE_BY_ONE: Story = Story {
     ..TWO
 };
 
-// The first entry's call waits for the call of the second, which no receive has brought yet.
+// The call of the first entry waits for the call of the second, whose request has not been received yet.
 #[test]
 fn a_call_that_waits_stops_nobody(rt: HostRuntime) -> Result<(), Fail> {
     let met = Arc::new(rt.alloc(), AtomicU32::new(0))?;

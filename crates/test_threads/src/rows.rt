@@ -1,4 +1,4 @@
-//! Sessions by 1, 2 and 4 workers, and by none and five.
+//! Sessions with 1, 2 and 4 workers, and with none and five.
 
 use crate::client::Fates;
 use crate::teller::{Comes, Story, check};
@@ -115,7 +115,7 @@ fn none_and_five_serve_nobody(rt: HostRuntime) -> Result<(), Fail> {
     Ok(())
 }
 
-/// Eight entries, the end by the client, and one more request.
+/// Eight entries, DESTROY, and one more request.
 const LAST_JOB: &[(u64, Operation<'static>)] = &[
     (1, Lookup { name: "a" }),
     (1, Lookup { name: "a" }),
@@ -218,7 +218,7 @@ fn each_reply_is_declined_in_turn(rt: HostRuntime) -> Result<(), Fail> {
     Ok(())
 }
 
-/// The third reply is not taken, and the link breaks at the fourth: the first entry alone is the client's.
+/// The third reply is not taken, and the link breaks at the fourth, so the client has only the first entry.
 const FATES: Story = Story {
     says: "taken, taken, not taken, broken",
     asks: &[
@@ -241,7 +241,7 @@ fn each_reply_has_its_fate(rt: HostRuntime) -> Result<(), Fail> {
     check(&rt, rt.alloc(), &FATES)
 }
 
-/// Nothing is offered once the link broke, and the entries of all replies from there on are given back.
+/// Nothing is offered once the link has broken, and the entries of all replies from there on are given back.
 #[test]
 fn the_link_breaks_at_each_reply(rt: HostRuntime) -> Result<(), Fail> {
     for declined in 2u32..10 {

@@ -3,7 +3,7 @@
 use engine_turns::Sleepers;
 use std::test::Fail;
 
-// Nobody wakes it: it would sleep for ever, if it did not look again by itself.
+// Nobody wakes it: it would sleep forever if it did not look by itself.
 #[test]
 fn a_sleeper_that_watches_looks_by_itself(rt: HostRuntime) -> Result<(), Fail> {
     let sleepers = Sleepers::new();
@@ -15,7 +15,7 @@ fn a_sleeper_that_watches_looks_by_itself(rt: HostRuntime) -> Result<(), Fail> {
     Ok(())
 }
 
-// It is woken after it said that it will sleep, and before it does.
+// It is woken after it announced that it will sleep, and before it does.
 #[test]
 fn no_wake_up_is_lost(rt: HostRuntime) -> Result<(), Fail> {
     let sleepers = Sleepers::new();
@@ -30,7 +30,7 @@ fn no_wake_up_is_lost(rt: HostRuntime) -> Result<(), Fail> {
     Ok(())
 }
 
-// One that sleeps, where nobody looks by itself, is called to look: it would sleep for ever, if it were not.
+// A sleeping thread is woken to look, if none looks by itself. Otherwise it would sleep forever.
 #[test]
 fn one_is_called_to_look(rt: HostRuntime) -> Result<(), Fail> {
     let sleepers = Sleepers::new();

@@ -1,4 +1,4 @@
-//! A client that takes its replies slowly, while more of them wait than their queue has places.
+//! A client that takes its replies slowly, while there are more replies than the reply queue has room for.
 
 ghost use Rattle.std.specs.Prelude.{◌≡◌};
 
@@ -10,7 +10,7 @@ use std::test::Fail;
 use std::thread;
 use wire::Operation::Lookup;
 
-/// How often it lets others go first before it takes a reply.
+/// How often it yields before it takes a reply.
 const YIELDS: u32 = 100;
 
 /// Takes each reply after a while.
@@ -63,7 +63,7 @@ fn one_worker_and_a_hundred_at_once(rt: HostRuntime) -> Result<(), Fail> {
     check_over(&rt, rt.alloc(), &one, asks, Slow { hears }, &heard, trees)
 }
 
-// Where all threads waited for a place in the queue of replies, none would be left who offers them.
+// If all threads waited for room in the reply queue, none would be left to offer replies to the client.
 #[test]
 fn more_replies_than_places(rt: HostRuntime) -> Result<(), Fail> {
     for _ in 0..5 {

@@ -1,4 +1,4 @@
-//! Tells a session on threads as data.
+//! Sessions on threads as data.
 
 ghost use Rattle.std.specs.Prelude.{◌≡◌};
 
@@ -16,12 +16,12 @@ use std::thread::Threads;
 use table::{Limits, Seeds};
 use wire::{Operation, Request, encode_request};
 
-/// How the frames come.
+/// How the frames arrive.
 #[derive(Clone, Copy, PartialEq, Eq)]
 pub enum Comes {
-    /// All by one receive.
+    /// All in one receive.
     Together,
-    /// Each by a receive of its own.
+    /// Each in a receive of its own.
     Alone,
 }
 
@@ -31,7 +31,7 @@ pub struct Story<'a> {
     pub says: &'a str,
     pub workers: usize,
     pub comes: Comes,
-    /// What is asked of which node after INIT.
+    /// What is asked after INIT, each request with its node.
     pub asks: &'a [(u64, Operation<'a>)],
     /// Bytes that come after all frames.
     pub rest: &'a [u8],
@@ -39,17 +39,17 @@ pub struct Story<'a> {
     pub end: SessionEnd,
     /// How many replies are offered.
     pub offers: u32,
-    /// The number of the request that the last reply answers, where it is a header alone, or 0.
+    /// If the last reply is only a header, the number of the request that it answers; otherwise 0.
     pub last: u64,
     /// How many jobs all workers took.
     pub taken: u64,
-    /// How often a node is born, unless it is a matter of time.
+    /// How often a node is born. None if that depends on timing.
     pub births: Option<u64>,
-    /// Entries, give-backs and what was forgotten, where the table was gathered.
+    /// Entries given, entries given back and entries forgotten, if the table was gathered.
     pub totals: Option<(u64, u64, u64)>,
 }
 
-/// What came of it.
+/// The result of a session.
 #[derive(Clone, Copy, Debug, PartialEq, Eq)]
 pub struct Came {
     pub end: SessionEnd,
@@ -58,9 +58,9 @@ pub struct Came {
     pub last: u64,
     pub workers: usize,
     pub taken: u64,
-    /// How many replies were handed back by their queue, and whether a job was.
+    /// How many replies were returned by their queue, and whether a job was.
     pub handed_back: (u64, bool),
-    /// Where that is asked for.
+    /// If the story says how often a node is born.
     pub births: Option<u64>,
     pub totals: Option<(u64, u64, u64)>,
 }
@@ -92,7 +92,7 @@ fn put_request(
     Ok(())
 }
 
-/// INIT and what is asked after it in pieces, one a receive, and these bytes after the last.
+/// INIT and the requests after it, in pieces of one receive each, with these bytes after the last.
 pub fn pieces_of(
     alloc: Global,
     comes: Comes,
@@ -127,7 +127,7 @@ pub fn tree_of(alloc: Global) -> Result<MemTree, AllocError> {
     }
 }
 
-/// A hold on one tree for each worker.
+/// A handle to one tree for each worker.
 pub fn holds_of<H: Wait + Clone + Drop>(
     rt: &H,
     alloc: Global,
@@ -152,7 +152,7 @@ fn summed(counts: &[u64]) -> u64 {
     sum
 }
 
-/// The number in the header that comes last.
+/// The number in the last header.
 fn last_of(bytes: &[u8]) -> u64 {
     let Some(from) = bytes.len().checked_sub(16) else {
         return 0;
@@ -165,7 +165,7 @@ fn last_of(bytes: &[u8]) -> u64 {
     number
 }
 
-/// The births, if the story asks for them, and the entries, those that came back and those that were forgotten.
+/// The births, if the story says how many, and how many entries were given, given back and forgotten.
 fn totals_of(ended: &Ended, story: &Story<'_>) -> (Option<u64>, Option<(u64, u64, u64)>) {
     let Some(account) = &ended.account else {
         return (None, None);
@@ -178,7 +178,7 @@ fn totals_of(ended: &Ended, story: &Story<'_>) -> (Option<u64>, Option<(u64, u64
     (born, Some((totals.entries, totals.backs, totals.forgotten)))
 }
 
-/// The last reply, if the story asks for it.
+/// The number in the last reply, if the story says it.
 fn last_heard(heard: &Heard, story: &Story<'_>) -> u64 {
     match story.last {
         0 => 0,
@@ -194,7 +194,7 @@ fn taken_of(ended: &Ended) -> (usize, u64) {
     }
 }
 
-/// How many replies of all threads were handed back by their queue, and whether a job was.
+/// How many replies of all threads were returned by their queue, and whether a job was.
 fn handed_back(ended: &Ended) -> (u64, bool) {
     match &ended.account {
         Some(account) => {
@@ -252,7 +252,7 @@ pub fn client_of<H: Wait + Clone + Drop>(
     Ok(Client { asks, hears, heard })
 }
 
-/// Serves a story by these directories over these links, and says what came of it.
+/// Serves a story with these trees over these links, and returns the result.
 fn tell<
     H: Threads + Wait + RandomSource + Clone + Send + Sync + Drop + 'static,
     O: LinkOut + Send + Drop + 'static,
@@ -283,7 +283,7 @@ fn tell<
     Ok(came_of(&ended, &heard, story))
 }
 
-/// Serves a story by holds on one tree, and fails where it came otherwise.
+/// Serves a story with handles to one tree, and fails if the result differs.
 pub fn check<H: Threads + Wait + RandomSource + Clone + Send + Sync + Drop + 'static>(
     rt: &H,
     alloc: Global,
@@ -293,7 +293,7 @@ pub fn check<H: Threads + Wait + RandomSource + Clone + Send + Sync + Drop + 'st
     check_by(rt, alloc, story, holds)
 }
 
-/// The same by these directories.
+/// The same with these trees.
 pub fn check_by<
     H: Threads + Wait + RandomSource + Clone + Send + Sync + Drop + 'static,
     C: Calls + Send + Drop + 'static,

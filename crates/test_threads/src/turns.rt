@@ -1,4 +1,4 @@
-//! Turns of a worker whose replies nobody gets any more, and of a reader whose jobs nobody takes.
+//! Turns of a worker whose replies nobody receives any more, and of a reader whose jobs nobody takes.
 
 ghost use Rattle.std.specs.Prelude.{◌≡◌, ◌<◌, ◌+◌, length, true};
 ghost use Rattle.crossbeam_channel.specs.Claims.{view, IsSeatAt};
@@ -30,10 +30,10 @@ use table_shared::{LogEntry, Opening, Runs, SharedTable};
 use wire::Operation;
 use wire::Operation::Lookup;
 
-/// One entry is asked for, after INIT.
+/// A LOOKUP, after INIT.
 const ONE: &[(u64, Operation<'static>)] = &[(1, Lookup { name: "a" })];
 
-/// The link of a client who asks for that.
+/// The link of a client that asks for this.
 fn asks<H: Wait + Clone + Drop>(rt: &H, alloc: Global) -> Result<Asks<H>, AllocError> {
     let heard = Arc::new(alloc, Mutex::new(Heard::new(alloc)))?;
     let Ok(own) = rt.clone() else {
@@ -73,7 +73,7 @@ pub fn passes_of(
     }
 }
 
-/// A worker with two jobs in its queue, and a queue for replies whose receiver is gone.
+/// A worker with two jobs in its queue, and a reply queue whose receiver has been dropped.
 fn lone_worker<H: Wait + Clone + Drop>(rt: &H, alloc: Global) -> Result<Worker, AllocError> {
     let (jobs, work, mut read) = bounded_with::<Option<Job>, Hand<Job>, Fair, Global>(alloc, 16)?;
     let (replies, receiver, mut written) = bounded_with::<
@@ -113,7 +113,7 @@ pub fn shared_table_of<T: Ledgers, N: Opening>(
     Ok((shared_table, worker, writer))
 }
 
-/// Both jobs are worked on.
+/// Handles both jobs.
 fn work_both<H: Wait + Drop, T: Ledgers, N: Opening>(
     rt: &H,
     shared_table: &SharedTable<T, N>,
@@ -128,7 +128,8 @@ fn work_both<H: Wait + Drop, T: Ledgers, N: Opening>(
     }
 }
 
-/// The same. What the table is then is the result, and how many replies were handed back.
+/// Handles both jobs on a shared table made of this one. Returns the table's final image, and how many replies the
+/// queue returned.
 fn work<H: Wait + Drop, T: Ledgers, N: Opening>(
     rt: &H,
     alloc: Global,
@@ -157,7 +158,7 @@ fn work<H: Wait + Drop, T: Ledgers, N: Opening>(
     Ok((image, worker.handed_back))
 }
 
-/// The same from a new table.
+/// The same with a new table.
 fn work_anew<H: Wait + Drop, T: Ledgers>(
     rt: &H,
     alloc: Global,
@@ -178,7 +179,7 @@ fn work_anew<H: Wait + Drop, T: Ledgers>(
     work::<H, T, Brand>(rt, alloc, opened, table, kept, worker, tree, &dirs)
 }
 
-/// Its reply is handed back, and the entry that it tells with it.
+/// The reply to LOOKUP is returned by the queue, so its entry is given back.
 const POSTINGS: &[Posting] = &[
     Posting::Born {
         number: 2,
@@ -216,7 +217,7 @@ fn reply_that_nobody_gets(rt: HostRuntime) -> Result<(), Fail> {
     Ok(())
 }
 
-/// How a receive of two frames ends whose jobs nobody takes, and the number of the job that was handed back.
+/// How a receive of two frames ends if nobody takes jobs, and the number of the job that the queue returned.
 fn read_for_nobody<H: Wait + Clone + Drop>(
     rt: &H,
     alloc: Global,

@@ -1,4 +1,4 @@
-//! Replies that the writer takes from its queue together.
+//! Replies that the writer takes from the queue together.
 
 ghost use Rattle.std.specs.Prelude.{◌≡◌};
 ghost use Rattle.table_steps.specs.Kept.{world_of};
@@ -28,14 +28,14 @@ use table_shared::{LogEntry, Opening, Runs, SharedTable};
 use wire::Operation;
 use wire::Operation::Lookup;
 
-/// Three entries are asked for, after INIT.
+/// Three LOOKUPs, after INIT.
 const THREE: &[(u64, Operation<'static>)] = &[
     (1, Lookup { name: "a" }),
     (1, Lookup { name: "a" }),
     (1, Lookup { name: "a" }),
 ];
 
-/// The reply to INIT is taken, and so is the first entry. The link breaks at the second.
+/// The reply to INIT and the first entry are taken. The link breaks at the second entry.
 const FATES: Fates = Fates::InTurn(&[Sent::Taken, Sent::Taken, Sent::Broken]);
 
 /// A worker with four jobs in its queue, and the writer of its replies.
@@ -59,7 +59,7 @@ fn both<H: Wait + Drop>(
     Ok((worker, writer))
 }
 
-/// All jobs are worked on. Then their replies are written together.
+/// Handles all jobs, and then writes their replies together.
 fn work_and_write<H: Wait + Drop, T: Ledgers, N: Opening>(
     rt: &H,
     shared_table: &SharedTable<T, N>,
@@ -78,7 +78,7 @@ fn work_and_write<H: Wait + Drop, T: Ledgers, N: Opening>(
     let _count = writer.turns(rt, hears, shared_table, own, share, &mut served.dirs);
 }
 
-/// The same. What the table is then is the result.
+/// The same on a shared table made of this one. Returns the table's final image.
 fn write<H: Wait + Drop, T: Ledgers, N: Opening>(
     rt: &H,
     alloc: Global,
@@ -111,7 +111,7 @@ fn write<H: Wait + Drop, T: Ledgers, N: Opening>(
     shared_table.close().into_table().export()
 }
 
-/// The same from a new table.
+/// The same with a new table.
 fn write_anew<H: Wait + Drop, T: Ledgers>(
     rt: &H,
     alloc: Global,
@@ -179,7 +179,7 @@ const POSTINGS: &[Posting] = &[
     },
 ];
 
-/// Runs it over a tree with the file `a`: what the table is then, and what became of each reply of the batch.
+/// Runs it over a tree with the file `a`. Returns the table's final image, and what became of each reply of the batch.
 fn run<H: Wait + RandomSource + Clone + Drop>(
     rt: &H,
     alloc: Global,

@@ -1,4 +1,4 @@
-//! Attributes of a host: what requests ask for, and what replies tell.
+//! Attributes of the host in requests and in replies.
 
 use crate::bytes::{SIXTEEN, bytes_of};
 use crate::frames::{Row, are_read, are_written};
@@ -70,7 +70,7 @@ const ASKED: &[Row] = &[
     ),
 ];
 
-/// Of a file of 1,025 bytes, which stand in three blocks: no two numbers are alike.
+/// The attributes of a file of 1,025 bytes, which takes three blocks. No two numbers are equal.
 const OF_THE_HOST: Attributes = Attributes {
     ino: 0x0102030405060708,
     kind: Kind::File,
@@ -103,18 +103,18 @@ const LONG: &str =
 const SHORT: &str =
     "ffc99a3b 22000000 33000000 e9890000 09000000 e8030000 64000000 00000000 00100000 00000000";
 
-/// It is node 2.
+/// The entry of node 2.
 const ENTRY: Entry = Entry {
     node: 2,
     generation: 1,
     attributes: OF_THE_HOST,
 };
 
-/// What stands before its attributes.
+/// What comes before its attributes.
 const NODE: &str =
     "0200000000000000 0100000000000000 0100000000000000 0100000000000000 00000000 00000000";
 
-/// A folder with all bits of permissions set: the lowest twelve are told.
+/// A folder with all permission bits set: the lowest twelve are reported.
 const OPEN_FOLDER: Attributes = Attributes {
     ino: 7,
     kind: Kind::Folder,
@@ -176,7 +176,7 @@ fn attributes_that_are_told(rt: HostRuntime) -> Result<(), Fail> {
     are_told(rt.alloc(), TOLD)
 }
 
-/// The entry of READDIRPLUS tells the inode number twice, and the node once.
+/// The entry of READDIRPLUS has the inode number twice, and the node number once.
 #[test]
 fn inode_number_of_an_entry(rt: HostRuntime) -> Result<(), Fail> {
     let mut out = Vec::new(rt.alloc());

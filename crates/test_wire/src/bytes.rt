@@ -6,7 +6,7 @@ use std::test::Fail;
 /// Sixteen bytes of zero.
 pub const SIXTEEN: &str = "00000000000000000000000000000000";
 
-/// The bytes that are spelt, one text after another. Spaces are for reading.
+/// The bytes that these texts spell, one after another. Spaces are only for readability.
 pub fn bytes_of(alloc: Global, texts: &[&str]) -> Result<Vec<u8>, Fail> {
     let mut digits = Vec::new(alloc);
     for text in texts {

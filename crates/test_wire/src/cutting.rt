@@ -1,4 +1,4 @@
-//! A stream that is cut anywhere, and lengths that no frame has.
+//! A stream that is cut at any place, and lengths that no frame may have.
 
 use std::test::Fail;
 use wire::{CutFault, Cutter};
@@ -10,7 +10,7 @@ const LOOKUP_A: [u8; 42] = [
     0x61, 0, // the name
 ];
 
-/// Where a piece and the next one stand in their rooms. None where a piece is in no room.
+/// Where a piece and the next one are in their buffers. None means that a piece is not in a buffer.
 const GAPS: [(Option<usize>, Option<usize>); 7] = [
     (Some(0), Some(0)),
     (Some(0), None),
@@ -76,7 +76,7 @@ fn many_frames_each_in_two_pieces(rt: HostRuntime) -> Result<(), Fail> {
     Ok(())
 }
 
-/// Hands a piece over as it is, or in a room behind so many other bytes.
+/// Passes a piece as it is, or in a buffer after that many other bytes.
 fn hand(
     cutter: &mut Cutter,
     room: &mut Vec<u8>,

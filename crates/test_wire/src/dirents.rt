@@ -1,4 +1,4 @@
-//! Names of a folder as READDIR and READDIRPLUS tell them, and the lookups that a BATCH_FORGET gives back.
+//! Directory entries as READDIR and READDIRPLUS return them, and the lookups that a BATCH_FORGET forgets.
 
 use crate::bytes::{SIXTEEN, bytes_of};
 use crate::replies::OF_A_FILE;
@@ -10,11 +10,11 @@ use wire::{
     encode_plus_dirent, encode_reply, split_pair,
 };
 
-/// Where the next entry stands, what it is, its name, and its bytes in digits.
+/// The offset of the next entry, its type, its name, and its bytes in digits.
 #[derive(Clone, Copy)]
 struct Row<'a>(u64, Kind, &'a str, &'a [&'a str]);
 
-/// Names of 1, 7, 8 and 9 bytes: the last fills its 8 bytes.
+/// Names of 1, 7, 8 and 9 bytes: the one of 8 needs no padding.
 const NAMES: &[Row] = &[
     Row(
         1,
@@ -89,7 +89,7 @@ const PLUS: &[PlusRow] = &[
     ),
 ];
 
-/// Each name comes after those before it.
+/// Each entry comes after those before it.
 #[test]
 fn names_of_a_folder(rt: HostRuntime) -> Result<(), Fail> {
     let mut wanted = Vec::new(rt.alloc());
@@ -119,7 +119,7 @@ fn names_with_their_nodes(rt: HostRuntime) -> Result<(), Fail> {
     Ok(())
 }
 
-/// The reply to READDIR of a folder with `a` and `b` alone, from its beginning on, in at most 32 bytes.
+/// The reply to a READDIR of a folder with only `a` and `b`, from its beginning, in at most 32 bytes.
 #[test]
 fn first_dirent(rt: HostRuntime) -> Result<(), Fail> {
     let mut page = Vec::new(rt.alloc());

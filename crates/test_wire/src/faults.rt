@@ -1,4 +1,4 @@
-//! Faulty frames, and which fault is told.
+//! Faulty frames, and which fault is returned.
 
 use Piece::{Bytes, Each};
 use std::alloc::Global;
@@ -15,15 +15,15 @@ use wire::{
 #[derive(Clone, Copy, Debug)]
 enum Piece<'a> {
     Bytes(&'a [u8]),
-    /// A byte, and how often.
+    /// A byte, and how many times.
     Each(u8, usize),
 }
 
-/// An opcode, what follows the header, and the fault that is told.
+/// An opcode, what follows the header, and the fault that is returned.
 #[derive(Clone, Copy, Debug)]
 struct Row<'a>(u32, &'a [Piece<'a>], Option<WireFault>);
 
-/// The length of a body is not its opcode's, or its zero bytes are not as many as its names.
+/// The length of a body is not that of its opcode, or there are not as many zero bytes as names.
 const BODIES: &[Row] = &[
     Row(LOOKUP, &[], Some(Body)),
     Row(FORGET, &[Each(0, 7)], Some(Body)),
@@ -87,8 +87,8 @@ const BODIES: &[Row] = &[
     Row(CREATE, &[Each(0, 16), Bytes(b"n\0\0")], Some(Body)),
 ];
 
-/// A size is above 131,072, or a count is not that of the pairs: 2^28 of them wrap in 32 bits; the data of a WRITE are not as many bytes as
-/// it says, or above 65,536.
+/// A size is above 131,072, or a count is not that of the pairs: the size of 2^28 pairs wraps around in 32 bits; or the
+/// data of a WRITE does not have as many bytes as it says, or has more than 65,536.
 const SIZES: &[Row] = &[
     Row(
         READ,
@@ -193,7 +193,7 @@ const NAMES: &[Row] = &[
     ),
 ];
 
-/// The opcodes that are not served come before a body, and a frame's length before its opcode.
+/// Opcodes that are not served are reported before faults in a body, and a wrong frame length before the opcode.
 const OPCODES: &[Row] = &[
     Row(0, &[], Some(Opcode)),
     Row(5, &[Bytes(b"/\0")], Some(Opcode)),
@@ -203,7 +203,7 @@ const OPCODES: &[Row] = &[
     Row(5, &[Each(0, 69593)], Some(Frame)),
 ];
 
-/// A frame of that body, of request 0 about node 0.
+/// A frame with that body, of request 0 for node 0.
 fn frame_of(alloc: Global, opcode: u32, pieces: &[Piece]) -> Result<Vec<u8>, Fail> {
     let mut body = Vec::new(alloc);
     for piece in pieces {

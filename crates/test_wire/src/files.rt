@@ -5,7 +5,7 @@ use crate::frames::{ONES, Row, are_read, are_written};
 use std::test::Fail;
 use wire::Operation::{Create, Flush, Open, Read, Release, Sync, Write};
 
-/// Frames whose bytes that are not read are zero.
+/// Frames in which the bytes that are not read are zero.
 const WRITTEN: &[Row] = &[
     Row(
         &[
@@ -112,8 +112,8 @@ const WRITTEN: &[Row] = &[
     ),
 ];
 
-/// Frames in which bytes that are not read are something else: flags of READ, WRITE, RELEASE and FSYNC, owners of locks, and what is
-/// unused.
+/// Frames in which bytes that are not read are not zero: flags of READ, WRITE, RELEASE and FSYNC, lock owners, and
+/// unused fields.
 const READ: &[Row] = &[
     Row(
         &[

@@ -1,4 +1,4 @@
-//! Frames of requests beside what they are.
+//! Frames of requests, with the requests that they are.
 
 use crate::bytes::bytes_of;
 use std::alloc::Global;
@@ -9,7 +9,7 @@ use wire::{NewAttributes, Operation, Request, Time, decode, encode_request};
 #[derive(Clone, Copy)]
 pub struct Row<'a>(pub &'a [&'a str], pub u64, pub u64, pub Operation<'a>);
 
-/// What was not as a row says.
+/// What was not as a row says it should be.
 #[derive(Debug, Drop)]
 enum Otherwise<'a> {
     Read(Request<'a>),
@@ -31,7 +31,7 @@ pub const NOTHING_NEW: NewAttributes = NewAttributes {
     },
 };
 
-/// What is not read.
+/// Bytes that are not read.
 pub const ONES: &str = "ffffffff ffffffff ffffffff ffffffff";
 
 /// Each frame is read as its request.

@@ -1,9 +1,9 @@
-//! Versions that are offered, and what comes of it.
+//! Versions that are offered, and the results.
 
 use std::test::Fail;
 use wire::{InitOut, Negotiated, negotiate};
 
-/// What is agreed on with 7.31, more than 65,536 bytes read ahead, and no flags.
+/// The agreement for 7.31, more than 65,536 bytes read ahead, and no flags.
 pub const AGREED: InitOut = InitOut {
     major: 7,
     minor: 31,
@@ -16,7 +16,7 @@ pub const AGREED: InitOut = InitOut {
     max_pages: 0,
 };
 
-/// What a client of a higher major version is told.
+/// What a client with a higher major version is sent.
 pub const OFFERED: InitOut = InitOut {
     max_readahead: 0,
     max_background: 0,
@@ -26,7 +26,7 @@ pub const OFFERED: InitOut = InitOut {
     ..AGREED
 };
 
-/// An offer's major and minor version, bytes read ahead and flags, and what comes of it.
+/// The major and minor version, bytes read ahead and flags of an offer, and the result.
 #[derive(Clone, Copy)]
 struct Negotiation(u32, u32, u32, u32, Negotiated);
 

@@ -1,5 +1,5 @@
-//! Frames and replies of the protocol, byte for byte, what is told of faulty frames, and a stream that is cut anywhere.
-//! The bytes are typed in from the tables of `fuse.h`.
+//! Frames and replies of the protocol, byte for byte, the faults of faulty frames, and a stream that is cut at any
+//! place. The bytes are typed in from the tables of `fuse.h`.
 #![tactic(auto)]
 
 #[cfg(test)]

@@ -1,4 +1,4 @@
-//! Replies, written.
+//! Writing replies.
 
 use crate::bytes::{SIXTEEN, bytes_of};
 use crate::greeting::{AGREED, OFFERED};
@@ -49,7 +49,7 @@ const NEVER: Time = Time {
     nanos: 0,
 };
 
-/// Of a file that anybody may read, and root may write.
+/// The details of a file that everyone may read and root may write.
 pub const OF_A_FILE: Details = Details {
     permissions: 0o644,
     links: 1,
@@ -75,7 +75,7 @@ const FILE: Attributes = Attributes {
 
 const EMPTY_FILE: Attributes = Attributes { size: 0, ..FILE };
 
-/// 600 bytes stand in two blocks.
+/// 600 bytes take two blocks.
 const LONG_FILE: Attributes = Attributes {
     ino: 2,
     kind: Kind::File,
@@ -224,7 +224,7 @@ const REPLIES: &[Row] = &[
     ),
 ];
 
-/// Whether `error_frame` has these bytes too, if it can say the reply.
+/// Whether `error_frame` gives these bytes too, if it can make this reply.
 fn is_framed(reply: &Reply, bytes: &[u8]) -> bool {
     match reply.body {
         ReplyBody::Failed { errno } => error_frame(reply.unique, errno).as_slice() == bytes,

@@ -1,4 +1,4 @@
-//! Frames of requests, read and written.
+//! Reading and writing the frames of requests.
 
 use crate::bytes::SIXTEEN;
 use crate::frames::{NOTHING_NEW, Row, are_read, are_written};
@@ -9,7 +9,7 @@ use wire::Operation::{
     ReadDirPlus, ReleaseDir, RemoveDir, Rename, Rename2, SetAttr, StatFs, SyncDir, Unlink,
 };
 
-/// Frames whose bytes that are not read are zero.
+/// Frames in which the bytes that are not read are zero.
 const WRITTEN: &[Row] = &[
     Row(
         &[

@@ -6,9 +6,10 @@ use wire::Operation::{
 };
 use wire::{NewAttributes, Time};
 
-/// Frames in which bytes that are not read are something else: uid, gid, pid and padding; of GETATTR the flags and the
-/// handle, of SETATTR its padding, the owner of locks, the time of the last change and what is unused, of INIT what follows
-/// its flags, of INTERRUPT all, of RENAME2 its padding, and of the requests about open folders flags and owners of locks.
+/// Frames in which bytes that are not read are not zero: uid, gid, pid and padding; for GETATTR the flags and the
+/// handle; for SETATTR its padding, the lock owner, the time of the last change and unused fields; for INIT what
+/// follows its flags; for INTERRUPT everything; for RENAME2 its padding; and for requests about open folders flags and
+/// lock owners.
 pub const READ: &[Row] = &[
     Row(
         &[

@@ -1,4 +1,4 @@
--- The way down to a leaf and up again.
+-- Walking down to a leaf and up again.
 use Rattle.std.proofs.Common.{ℕ, ◌+◌, ◌<◌, ◌≡◌, List, [], ◌∷◌, ◌++◌, Some, length, refl, sym, ap, ◌∙◌, subst, inl, inr, arith}
 use Rattle.paths.specs.Prefixes.{Name, Names}
 use Rattle.tree.specs.declared.nodes.Node.{Node}
@@ -10,14 +10,14 @@ use Rattle.tree.proofs.Listing.{lists_cut, named_uncut}
 use Rattle.tree.proofs.LookupLemmas.{with_other, with_same}
 use Rattle.tree.proofs.Pruning.{IsPruned, IsPruned-step, CutsBelow-pruned}
 
--- the nodes above a leaf stay on their way
+-- a leaf is not on the way of the nodes above it, so their way does not change
 pub way_kept : (at : Lookup) (n m leaf : ℕ) (x : Node) → (HasChild at leaf → ⊥) → (names : Names) → HasChild at m → Reaches at n m names → Reaches (with_node at leaf (cut_node x)) n m names
 way_kept at n m leaf x childless [] child h = h
 way_kept at n m leaf x childless (y ∷ names) child h =
     let other : leaf ≡ m → ⊥ = λ e. childless (subst (λ k. HasChild at k) (sym e) child) in
     (h.0, (h.1.0, with_other at leaf (cut_node x) m other ∙ h.1.1, h.1.2), way_kept at n h.0 leaf x childless names (m, y, h.1) h.2)
 
--- what is named now was named so
+-- a node that has a name now had it before
 pub was_named : (old now : Lookup) (n : ℕ) → IsPruned old now n → (m p : ℕ) (name : Name) → IsNamed now m p name → IsNamed old m p name
 was_named old now n pruned m p name h = elim (pruned.each m) [
   | inl same ↦ (h.0, sym same ∙ h.1, h.2)
@@ -28,7 +28,7 @@ pub way_before : (old now : Lookup) (n : ℕ) → IsPruned old now n → (names 
 way_before old now n pruned [] m h = h
 way_before old now n pruned (y ∷ names) m h = (h.0, was_named old now n pruned m h.0 y h.1, way_before old now n pruned names h.0 h.2)
 
--- where the walk is: so many names below n, which is named still
+-- the position of the walk: depth names below n, which still has its name
 pub record IsDescended (now : Lookup) (n current depth : ℕ) : Type 0 where
   pub parent : ℕ
   pub name : Name
@@ -71,7 +71,7 @@ pub IsDescended-up : (now : Lookup) (n current depth parent less : ℕ) (x : Nod
 IsDescended-up now n current depth parent less x other childless word named e d =
     up_by now n current depth parent x other childless d.parent d.name d.top word named d.names d.climb d.count less e
 
--- below n, not at it, the way is not empty
+-- for a node below n other than n the way is not empty
 pub deeper : (now : Lookup) (n current depth : ℕ) → (current ≡ n → ⊥) → IsDescended now n current depth → 0 < depth
 deeper now n current depth other d = by d.names d.climb d.count
   where
@@ -79,14 +79,14 @@ deeper now n current depth other d = by d.names d.climb d.count
     by [] h count = absurd (other h)
     by (y ∷ names) h count = omega (arith, count)
 
--- n was cut last
+-- n is the last node to be cut
 pub cut_last : (old mid now : Lookup) (n : ℕ) (x : Node) → mid n ≡ Some x → (x.place ≡ Cut → ⊥) → now ≡ with_node mid n (cut_node x) → IsPruned old mid n → IsPruned old now n → CutsBelow old now n
 cut_last old mid now n x stood whole wrote before pruned = elim (before.each n) [
   | inl same ↦ CutsBelow-pruned old now n x (sym same ∙ stood) whole (ap (λ (a : Lookup). a n) wrote ∙ with_same mid n (cut_node x)) pruned
   | inr changed ↦ absurd (whole (place_same mid n x (cut_node changed.1.0) stood changed.1.2))
 ]
 
--- a node that was met on the way and has no children is cut
+-- a node on the way without children is cut
 module _ (old mid new : Lookup) (n current depth p : ℕ) (word : Name) (h : IsNamed mid current p word) (leaf : HasChild mid current → ⊥) (wrote : new ≡ with_node mid current (cut_node h.0)) (pruned : IsPruned old mid n) (d : IsDescended mid n current depth) where
   pub whole_here : h.0.place ≡ Cut → ⊥
   whole_here e = cut_unnamed mid current h.0 h.1 e p word h
@@ -101,6 +101,6 @@ module _ (old mid new : Lookup) (n current depth p : ℕ) (word : Name) (h : IsN
   pub cuts_on : current ≡ n → CutsBelow old new n
   cuts_on e = cut_last old mid new n h.0 (ap mid (sym e) ∙ h.1) whole_here (wrote ∙ ap (λ (k : ℕ). with_node mid k (cut_node h.0)) e) pruned pruned_on
 
-  -- and it is listed
+  -- and it is appended to the list
   pub lists_on : (before after : List ℕ) → ListsCuts old mid before after → ListsCuts old new before (after ++ current ∷ [])
   lists_on before after lists = lists_cut old mid new before after current h.0 h.1 whole_here (named_uncut old current p word (was_named old mid n pruned current p word h)) wrote lists

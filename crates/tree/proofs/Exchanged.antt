@@ -1,4 +1,4 @@
--- What an exchange of two names comes to: two nodes change places, one moves, or none does.
+-- The results of an exchange of two names: two nodes change places, or one moves, or none does.
 use Rattle.std.proofs.Common.{ℕ, ◌≡◌, if◌then◌else◌, true, [], ◌∷◌, ◌++◌, length, drop, reverse, refl, sym, ap, ◌∙◌, subst, inl, inr}
 use Rattle.std.proofs.lemmas.Bool.{cases_Bool, cond-true, cond-false}
 use Rattle.std.proofs.lemmas.List.{reverse-append}
@@ -12,7 +12,7 @@ use Rattle.tree.proofs.Moving.{after_shift, Changes-shift}
 use Rattle.tree.proofs.Transfers.{below_prefix}
 use Rattle.tree.proofs.Exchanging.{CanSwap, Changes-swap, differ, swapped, swap_other}
 
--- the same exchange, the other name first
+-- the same exchange with the names swapped
 pub other_way : (at : Lookup) (parent : ℕ) (name : Name) (new_parent : ℕ) (new_name : Name) → CanExchange at parent name new_parent new_name → CanExchange at new_parent new_name parent name
 other_way at parent name new_parent new_name can = record {
   above = can.new_above;
@@ -22,7 +22,7 @@ other_way at parent name new_parent new_name can = record {
   apart = record { not_above = λ e. sym (can.apart.not_below e); not_below = λ e. sym (can.apart.not_above e) };
 }
 
--- nobody is at a free name or below
+-- no node is at a free name or below it
 none_below : (old : Lookup) → IsTree old → (parent : ℕ) (up : Names) (name : Name) → IsPathOf old parent up → IsFree old parent name → (m : ℕ) (path : Names) → IsPathOf old m path → is_prefix (up ++ name ∷ []) path ≡ true → ⊥
 none_below old tree parent up name h free m path st prefix =
     let q = up ++ name ∷ [] in
@@ -44,7 +44,7 @@ same_exchange p (at_path r) = elim (cases_Bool (is_prefix p r)) [
   | inr none ↦ cond-false (is_prefix p r) (at_path (p ++ drop (length p) r)) (if is_prefix p r then at_path (p ++ drop (length p) r) else at_path r) none ∙ cond-false (is_prefix p r) (at_path (p ++ drop (length p) r)) (at_path r) none
 ]
 
--- the same change, told otherwise of all who stand somewhere
+-- the same change, given by another function that agrees on all places that nodes have
 Changes-as : (f g : Where → Where) (old new : Lookup) → ((m : ℕ) (w : Where) → Stands old m w → f w ≡ g w) → Changes f old new → Changes g old new
 Changes-as f g old new same c = record {
   moved = λ m w st. subst (λ (v : Where). Stands new m v) (same m w st) (c.moved m w st);
@@ -81,7 +81,7 @@ module _ (old : Lookup) (tree : IsTree old) (parent : ℕ) (name : Name) (new_pa
         not_above = λ below. alike (can.apart.not_below (below_prefix old tree b a new_path path (new_path_of b two) (path_of a one) below));
       }
 
-  -- a node at one name alone may move to the other
+  -- a node at only one of the names may move to the other
   pub movable : (n : ℕ) → IsNamed old n parent name → IsFree old new_parent new_name → IsMovable old n new_parent new_name
   movable n named free = record {
     tree = tree;
@@ -127,7 +127,7 @@ module _ (old : Lookup) (tree : IsTree old) (parent : ℕ) (name : Name) (new_pa
     ]
   ]
 
-  -- one node at the first name alone
+  -- only the first name has a node
   pub Exchanges-first : (n : ℕ) (named : IsNamed old n parent name) → IsFree old new_parent new_name → Exchanges old (with_node old n (moved_node named.0 new_parent new_name)) parent name new_parent new_name
   Exchanges-first n named free = with_change (with_node old n (moved_node named.0 new_parent new_name))
       (Changes-as (after_shift from_path to_path) (after_exchange from_path to_path) old (with_node old n (moved_node named.0 new_parent new_name)) (first_as free)
@@ -144,7 +144,7 @@ module _ (old : Lookup) (tree : IsTree old) (parent : ℕ) (name : Name) (new_pa
     ]
   ]
 
-  -- one node at the second name alone
+  -- only the second name has a node
   pub Exchanges-second : (n : ℕ) (named : IsNamed old n new_parent new_name) → IsFree old parent name → Exchanges old (with_node old n (moved_node named.0 parent name)) parent name new_parent new_name
   Exchanges-second n named free = with_change (with_node old n (moved_node named.0 parent name))
       (Changes-as (after_shift to_path from_path) (after_exchange from_path to_path) old (with_node old n (moved_node named.0 parent name)) (second_as free)
@@ -161,11 +161,11 @@ module _ (old : Lookup) (tree : IsTree old) (parent : ℕ) (name : Name) (new_pa
     ]
   ]
 
-  -- no node at either
+  -- neither name has a node
   pub Exchanges-none : IsFree old parent name → IsFree old new_parent new_name → Exchanges old old parent name new_parent new_name
   Exchanges-none free free' = with_change old (Changes-as (λ w. w) (after_exchange from_path to_path) old old (none_as free free') (Changes-none old)) (λ m one two. refl)
 
-  -- both names are one
+  -- both names are the same
   pub Exchanges-same : (n : ℕ) → IsNamed old n parent name → IsNamed old n new_parent new_name → Exchanges old old parent name new_parent new_name
   Exchanges-same n one two =
       let alike : from_path ≡ to_path = path_same old tree.rooted from_path to_path n (at_first n one) (at_second n two) in

@@ -1,4 +1,4 @@
--- A node is put into the slab, and then its number is written: it is there, with no links yet, and all others are as before.
+-- A node is put into the slab and its number is written: it exists and has no links, and all others are unchanged.
 use Rattle.std.proofs.Common.{ℕ, ◌+◌, ◌≡◌, Some, None, sym, ap, ◌∙◌}
 use Rattle.slab.specs.Slab.{Slab, get, Updates}
 use Rattle.collections.specs.declared.children.Linked.{Linked}

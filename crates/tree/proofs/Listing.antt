@@ -1,4 +1,4 @@
--- What a change adds to the list of nodes that came to be cut.
+-- What a change appends to the list of newly cut nodes.
 use Rattle.std.proofs.Common.{ℕ, zero, suc, ◌≡◌, List, [], ◌∷◌, ◌++◌, Some, Contains, refl, sym, ap, ◌∙◌, subst, inl, inr, arith}
 use Rattle.std.proofs.lemmas.Bool.{cases_eq}
 use Rattle.std.proofs.lemmas.List.{append-nil, append_assoc}
@@ -25,7 +25,7 @@ lists_same old new list same = record {
   are_new = λ n. (λ none. absurd (none_in n none), λ h. absurd (h.1 (subst (λ (at : Lookup). IsCut at n) same h.0)));
 }
 
--- a node that was named in what stood before is cut, and is listed
+-- a node that was not cut is cut, and is appended to the list
 pub lists_cut : (old mid new : Lookup) (before after : List ℕ) (n : ℕ) (x : Node) → mid n ≡ Some x → (x.place ≡ Cut → ⊥) → (IsCut old n → ⊥) → new ≡ with_node mid n (cut_node x) → ListsCuts old mid before after → ListsCuts old new before (after ++ n ∷ [])
 lists_cut old mid new before after n x stood whole uncut wrote lists =
     let here : new n ≡ Some (cut_node x) = ap (λ (at : Lookup). at n) wrote ∙ with_same mid n (cut_node x) in
@@ -50,7 +50,7 @@ lists_cut old mid new before after n x stood whole uncut wrote lists =
       );
     }
 
--- a node that was not cut gets another place
+-- a node that was not cut moves to another place
 pub lists_moved : (old mid new : Lookup) (before after : List ℕ) (n : ℕ) (x y : Node) → mid n ≡ Some x → (x.place ≡ Cut → ⊥) → (y.place ≡ Cut → ⊥) → new ≡ with_node mid n y → ListsCuts old mid before after → ListsCuts old new before after
 lists_moved old mid new before after n x y stood whole still wrote lists =
     let here : new n ≡ Some y = ap (λ (at : Lookup). at n) wrote ∙ with_same mid n y in
@@ -69,11 +69,11 @@ lists_moved old mid new before after n x y stood whole still wrote lists =
       );
     }
 
--- what is named is not cut
+-- a node with a name is not cut
 pub named_uncut : (at : Lookup) (n p : ℕ) (name : List ℕ) → IsNamed at n p name → IsCut at n → ⊥
 named_uncut at n p name named cut = cut_unnamed at n cut.0 cut.1 cut.2 p name named
 
--- the same of equal nodes and lists
+-- the same for equal nodes and lists
 pub lists_as : (old old' new new' : Lookup) (before before' after : List ℕ) → old ≡ old' → new ≡ new' → before ≡ before' → ListsCuts old new before after → ListsCuts old' new' before' after
 lists_as old old' new new' before before' after e f g lists =
     subst (λ (at : Lookup). ListsCuts at new' before' after) e (subst (λ (at : Lookup). ListsCuts old at before' after) f (subst (λ (l : List ℕ). ListsCuts old new l after) g lists))

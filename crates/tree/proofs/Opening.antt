@@ -1,4 +1,4 @@
--- A slab with the root alone, and an empty index.
+-- A slab with only the root, and an empty index.
 use Rattle.std.proofs.Common.{ℕ, ◌+◌, ◌-◌, ◌≡◌, List, [], Option, Some, None, refl, sym, ap, ◌∙◌, subst, inl, inr, arith}
 use Rattle.std.proofs.lemmas.Bool.{cases_eq}
 use Rattle.std.proofs.lemmas.Option.{none-some}
@@ -59,7 +59,7 @@ module _ (s new : Slab (Linked Node)) (key : ℕ) (l : Linked Node) (empty : s.s
       let none : counts_of (listed s.slots) ≡ 0 = ap (λ (slots : List (Option (Linked Node))). counts_of (listed slots)) empty ∙ none_of_nothing in
       omega (arith, sum, none)
 
-  -- the root has no parent, and nobody else is there
+  -- the root has no parent, and there is no other node
   orphans : (n : ℕ) → parents_in (slot_at new) n ≡ None
   orphans n = parents_with (slot_at s) (slot_at new) 1 root_node root_put n ∙ sym (parent_same (parents_in (slot_at s)) 1 None (ap node_parent (nobody_at 1)) n) ∙ ap node_parent (nobody_at n)
 

@@ -1,4 +1,4 @@
--- A cut leaf by leaf: nodes without children go first, and at the end the node itself.
+-- A cut leaf by leaf: nodes without children are cut first, and in the end the node itself.
 use Rattle.std.proofs.Common.{ℕ, ◌≡◌, [], ◌∷◌, Some, refl, sym, ap, ◌∙◌, subst, ◌⊎◌, inl, inr}
 use Rattle.std.proofs.lemmas.Bool.{cases_eq}
 use Rattle.std.proofs.lemmas.Option.{same_Some}
@@ -49,7 +49,7 @@ IsPruned-step old now n m x not_root stood whole leaf below p = record {
   ];
 }
 
--- once the node itself is cut, all below it are
+-- once the node itself is cut, everything below it is
 module _ (old now : Lookup) (n : ℕ) (stood : Node) (alive : old n ≡ Some stood) (whole : stood.place ≡ Cut → ⊥) (gone : now n ≡ Some (cut_node stood)) (p : IsPruned old now n) where
   reached : (names : Names) (m : ℕ) → Reaches old n m names → (x : Node) × (old m ≡ Some x)
   reached [] m h = (stood, ap old h ∙ alive)

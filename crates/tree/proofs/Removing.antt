@@ -1,4 +1,4 @@
--- A node that was cut, and has no children, is taken out of the slab.
+-- A node that is cut and has no children is removed from the slab.
 use Rattle.std.proofs.Common.{ℕ, ◌+◌, ◌≡◌, Some, None, refl, sym, ap, ◌∙◌, inl, inr, arith}
 use Rattle.std.proofs.lemmas.Bool.{cases_eq}
 use Rattle.std.proofs.lemmas.Bool.Decides.{nat_tests}

@@ -1,4 +1,4 @@
--- What is found in a slab of nodes after one was put in, written or taken out.
+-- What is found in a slab of nodes after one was inserted, written or removed.
 use Rattle.std.proofs.Common.{ℕ, zero, suc, ◌+◌, ◌-◌, ◌<◌, ◌≤◌, ◌≡◌, ◌==◌, ◌^◌, nat_lt, true, false, if◌then◌else◌, List, [], ◌∷◌, Option, Some, None, is_some, cond, count_by, length, get_or, refl, sym, ap, ◌∙◌, subst, inl, inr, arith}
 use Rattle.std.proofs.lemmas.Bool.{cases_eq, cond-false, cond-true, lt-ltb, le-ltb}
 use Rattle.std.proofs.lemmas.List.Sums.{sum_by-cons}
@@ -22,25 +22,25 @@ use Rattle.tree.proofs.Census.{census_of}
 use Rattle.tree.proofs.Walking.{next_is}
 use Rattle.tree.proofs.LookupLemmas.{with_other, with_same}
 
--- the value of what stands at a key
+-- the value at a key
 abbrev pub value_or : Option (Linked Node) → Option Node
 value_or o = option_map value_of o
 
--- the number of a key
+-- the number that belongs to a key
 pub slot_of : (s : Slab (Linked Node)) (n k : ℕ) → n ≡ k + 1 → slot_at s n ≡ value_or (get s k)
 slot_of s n k e = ap value_or (linked_of s n k e)
 
 pub slot_none : (s : Slab (Linked Node)) (n : ℕ) → n ≡ 0 → slot_at s n ≡ None
 slot_none s n e = ap value_or (linked_none s n e)
 
--- who is found has a key
+-- a node that is found has a key
 pub key_of : (s : Slab (Linked Node)) (n : ℕ) (x : Node) → slot_at s n ≡ Some x → (k : ℕ) × (n ≡ k + 1) × (l : Linked Node) × (get s k ≡ Some l) × (l.value ≡ x)
 key_of s n x h = elim (cases_eq n 0) [
   | inl e ↦ absurd (none-some x (sym (slot_none s n e) ∙ h))
   | inr ne ↦ let e : n ≡ n - 1 + 1 = omega arith in let it = value_some (get s (n - 1)) x (sym (slot_of s n (n - 1) e) ∙ h) in (n - 1, e, it.0, it.1, it.2)
 ]
 
--- what a key has is a node
+-- an occupied key has a node
 pub key_alive : (o : Option (Linked Node)) → is_some o ≡ true → (x : Node) × (value_or o ≡ Some x)
 key_alive None h = absurd (let bad : false ≡ true = h in cc)
 key_alive (Some l) h = (l.value, refl)
@@ -59,7 +59,7 @@ slot_updated old new k o n e u = value_updated old new k n o e u
 
 -- ---- the nodes as a list
 
--- each node bears the number of its place, where the first place has that number
+-- each node has the number that belongs to its key, counted from the first one's number on
 abbrev pub Bears : ℕ → List (Option (Linked Node)) → Type 0
 Bears first slots = (k : ℕ) (l : Linked Node) → get_or slots k None ≡ Some l → l.value.number ≡ first + k
 
@@ -141,7 +141,7 @@ module _ (old new : Slab (Linked Node)) (numbered : (n : ℕ) (x : Node) → slo
       let e = sum_once (slot_at new) (λ (z : Node). z.count) (counts_of (listed new.slots)) t (counts_sum new numbered') (subst (λ (at : Lookup). IsSum at (λ (z : Node). z.count) t) (sym wrote) sum) in
       omega arith
 
-  -- two nodes change, and not their counts
+  -- two nodes change, but not their counts
   pub counts_swapped : (n k : ℕ) (x x' y y' : Node) → (n ≡ k → ⊥) → slot_at old n ≡ Some x → slot_at old k ≡ Some y → x'.count ≡ x.count → y'.count ≡ y.count → slot_at new ≡ with_node (with_node (slot_at old) n x') k y' → counts_of (listed new.slots) ≡ counts_of (listed old.slots)
   counts_swapped n k x x' y y' differ here here' same same' wrote =
       let s = counts_of (listed old.slots) in
@@ -165,7 +165,7 @@ module _ (old new : Slab (Linked Node)) (numbered : (n : ℕ) (x : Node) → slo
       let e = sum_once (slot_at new) (λ (z : Node). z.count) (counts_of (listed new.slots)) t (counts_sum new numbered') (subst (λ (at : Lookup). IsSum at (λ (z : Node). z.count) t) (sym wrote) sum) in
       omega arith
 
--- the same of what callers see
+-- the same for what callers see
 pub census_in : (s : Slab (Linked Node)) → ((n : ℕ) (x : Node) → slot_at s n ≡ Some x → x.number ≡ n) → (t : Nodes) (limit room next : ℕ) (cut : List ℕ) → record { nodes = nodes_of (listed s.slots); living = slab_len s; counts = counts_of (listed s.slots); limit = limit; room = room; next = next; newly_cut = cut } ≡ t → IsCensus (at_in t) t.living t.counts
 census_in s numbered t limit room next cut view =
     let P : Nodes → Type 0 = λ u. IsCensus (at_in u) u.living u.counts in
@@ -184,7 +184,7 @@ next_same : (s s' : Slab (Linked Node)) → s'.slots ≡ s.slots → s'.vacant_k
 unfolding next_number
 next_same s s' slots next = λ i. if nat_lt (next i + 1) (2 ^ 64) then next i + 1 else next_of (listed (slots i))
 
--- callers see no capacity
+-- callers do not see the capacity
 pub view_same : (s s' : Slab (Linked Node)) → s'.slots ≡ s.slots → s'.vacant_key ≡ s.vacant_key → (limit room : ℕ) (cut cut' : List ℕ) → cut' ≡ cut
     → ◌≡◌ {A = Nodes} (record { nodes = nodes_of (listed s'.slots); living = slab_len s'; counts = counts_of (listed s'.slots); limit = limit; room = room; next = next_number s'; newly_cut = cut' })
     (record { nodes = nodes_of (listed s.slots); living = slab_len s; counts = counts_of (listed s.slots); limit = limit; room = room; next = next_number s; newly_cut = cut })
@@ -192,7 +192,7 @@ view_same s s' slots next limit room cut cut' same =
     let number = next_same s s' slots next in
     λ i. record { nodes = nodes_of (listed (slots i)); living = count_by is_some (slots i); counts = counts_of (listed (slots i)); limit = limit; room = room; next = number i; newly_cut = same i }
 
--- where the slab's next key is the greatest number, the least free one is next
+-- if the slab's next key is the greatest number, the least free number is next
 pub next_full : (s : Slab (Linked Node)) (n : ℕ) → 2 ^ 64 ≤ s.vacant_key + 1 → IsDistinct (listed s.slots) → IsLeastFree (listed s.slots) n → n ≡ next_number s
 unfolding next_number
 next_full s n full distinct least =

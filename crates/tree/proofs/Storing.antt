@@ -1,4 +1,4 @@
--- What a change of one node makes of all that is stored.
+-- What a change of one node does to everything that is stored.
 use Rattle.std.proofs.Common.{ℕ, ◌+◌, ◌<◌, ◌≤◌, ◌≡◌, if◌then◌else◌, List, [], Option, Some, None, length, refl, sym, ap, ◌∙◌, subst, inl, inr, arith, is_some}
 use Rattle.std.proofs.lemmas.Bool.{cases_eq, cond-false, cond-true, cases_Bool}
 use Rattle.std.proofs.lemmas.Option.{none-some, same_Some}
@@ -40,11 +40,11 @@ module _ (s : Slab (Linked Node)) (n k : ℕ) (l : Linked Node) (y : Node) (e : 
       let new : Linked Node = record l { value = y } in
       kin_kept s (with_value s k new) k n (Some new) e (Updates-with_value s k new (ap (λ (o : Option (Linked Node)). is_some o) read)) (ap kin_or (sym read))
 
-  -- the node that is read there
+  -- the node that is read
   pub node_read : (x : Node) → slot_at s n ≡ Some x → l.value ≡ x
   node_read x stood = same_Some l.value x (sym (ap value_or read) ∙ (sym (slot_of s n k e) ∙ stood))
 
--- who is found has a key below the capacity
+-- a node that is found has a key below the capacity
 pub within : (s : Slab (Linked Node)) (k bound : ℕ) (l : Linked Node) → length s.slots ≤ bound → get s k ≡ Some l → k < bound
 within s k bound l fits h = elim (cases_lt k bound) [
   | inl low ↦ low
@@ -73,11 +73,11 @@ free_found at m k indexed free = by (found same_key m k) refl
     by None e = e
     by (Some n) e = absurd (free n (indexed.sound k n e))
 
--- who is named is in the index
+-- a node with a name is in the index
 pub place_found : {S : Type 0} (at : Lookup) (m : IndexMap Key (Option ℕ) S) (n : ℕ) (x : Node) → IsIndexed at m → at n ≡ Some x → (k : Key) → x.place ≡ Named k → (j : ℕ) × (found same_key m k ≡ Some j)
 place_found at m n x indexed stood k is = (n, indexed.whole k n (x, stood, is))
 
--- a node is named no more, whatever its place was
+-- a node without a name now, whatever its place was before
 module _ {S : Type 0} (old new : Lookup) (n : ℕ) (m m' : IndexMap Key (Option ℕ) S) (others : (j : ℕ) → (n ≡ j → ⊥) → new j ≡ old j) (gone : (p : ℕ) (name : Name) → IsNamed new n p name → ⊥) where
   unplaced_by : (x : Node) (place : Place) → x.place ≡ place → old n ≡ Some x → IsIndexed old m
       → ((k : Key) → place ≡ Named k → (q : Key) → found same_key m' q ≡ (if same_key k q then None else found same_key m q)) → (((k : Key) → place ≡ Named k → ⊥) → m' ≡ m) → IsIndexed new m'
@@ -94,7 +94,7 @@ module _ {S : Type 0} (old new : Lookup) (n : ℕ) (m m' : IndexMap Key (Option 
       → ((k : Key) → x.place ≡ Named k → (q : Key) → found same_key m' q ≡ (if same_key k q then None else found same_key m q)) → (((k : Key) → x.place ≡ Named k → ⊥) → m' ≡ m) → IsIndexed new m'
   unplaced x stood indexed taken same = unplaced_by x x.place refl stood indexed taken same
 
--- the same where the node is cut
+-- the same for a node that is cut
 pub cut_indexed : {S : Type 0} (old new : Lookup) (n : ℕ) (x : Node) (m m' : IndexMap Key (Option ℕ) S) → old n ≡ Some x → new ≡ with_node old n (cut_node x) → IsIndexed old m
     → ((k : Key) → x.place ≡ Named k → (q : Key) → found same_key m' q ≡ (if same_key k q then None else found same_key m q)) → (((k : Key) → x.place ≡ Named k → ⊥) → m' ≡ m) → IsIndexed new m'
 cut_indexed old new n x m m' stood wrote indexed taken same =
@@ -103,14 +103,14 @@ cut_indexed old new n x m m' stood wrote indexed taken same =
     (λ p name h. cut_unnamed new n (cut_node x) (ap (λ (a : Lookup). a n) wrote ∙ with_same old n (cut_node x)) refl p name h)
     x stood indexed taken same
 
--- a name that is taken out, or was not there, is not there
+-- a name that was removed from the index, or was not in it, is not in it
 pub taken_free : {S : Type 0} (m m' : IndexMap Key (Option ℕ) S) (k q : Key) → found same_key m' q ≡ (if same_key k q then None else found same_key m q) → found same_key m q ≡ None → found same_key m' q ≡ None
 taken_free m m' k q taken none = elim (cases_Bool (same_key k q)) [
   | inl hit ↦ taken ∙ cond-true (same_key k q) None (found same_key m q) hit
   | inr miss ↦ taken ∙ (cond-false (same_key k q) None (found same_key m q) miss ∙ none)
 ]
 
--- a node that had a name has another now
+-- a node that had a name has another one now
 pub moved_indexed : {S : Type 0} (old new : Lookup) (n : ℕ) (x : Node) (k k' : Key) (m m' m'' : IndexMap Key (Option ℕ) S) → old n ≡ Some x → x.place ≡ Named k → IsFree old k'.parent k'.name → new ≡ with_node old n (moved_node x k'.parent k'.name) → IsIndexed old m
     → ((q : Key) → found same_key m' q ≡ (if same_key k q then None else found same_key m q)) → ((q : Key) → found same_key m'' q ≡ (if same_key k' q then Some n else found same_key m' q)) → IsIndexed new m''
 moved_indexed old new n x k k' m m' m'' stood is free wrote indexed taken put =
@@ -128,7 +128,7 @@ moved_indexed old new n x k k' m m' m'' stood is free wrote indexed taken put =
     (moved_node x k'.parent k'.name, there, refl)
     first put
 
--- the same slots and entries
+-- with the same slots and entries
 pub same_slots : (s s' : Slab (Linked Node)) → s'.slots ≡ s.slots → slot_at s' ≡ slot_at s
 same_slots s s' e = ap (λ (slots : List (Option (Linked Node))). slot_at (record s { slots = slots })) e
 
@@ -146,7 +146,7 @@ stored_same s s' m m' named slots entries old = record {
   counted = old.counted ∙ ap (λ (es : List (Key × Option ℕ)). living es) (sym entries);
 }
 
--- what a search of the index tells
+-- what a search of the index says
 pub find_none : {S : Type 0} (at : Lookup) (m : IndexMap Key (Option ℕ) S) (k : Key) → IsIndexed at m → (r : Option ℕ) → r ≡ found same_key m k → IfNone r (IsFree at k.parent k.name)
 find_none at m k indexed None e = λ n named. none-some n (e ∙ indexed.whole k n named)
 find_none at m k indexed (Some n) e = tt

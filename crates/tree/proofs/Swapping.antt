@@ -1,4 +1,4 @@
--- What an exchange of two nodes makes of the index, of the children, and of the sum of the counts.
+-- What an exchange of two nodes does to the index, to the children, and to the sum of the counts.
 use Rattle.std.proofs.Common.{ℕ, ◌≡◌, if◌then◌else◌, true, false, Option, Some, sym, ap, ◌∙◌, subst, inl, inr, arith}
 use Rattle.std.proofs.lemmas.Bool.{cases_Bool, cases_eq, cond-false, cond-true}
 use Rattle.std.proofs.lemmas.Bool.Decides.{nat_tests}
@@ -15,7 +15,7 @@ use Rattle.tree.proofs.Climbing.{named_same}
 use Rattle.tree.proofs.Indexing.{key_same, same_self}
 use Rattle.tree.proofs.Exchanging.{swapped_nodes}
 
--- the first of two nodes is written twice
+-- writing the first of two nodes twice
 pub with_around : (at : Lookup) (n k : ℕ) (x y z : Node) → (n ≡ k → ⊥) → with_node (with_node (with_node at n x) k y) n z ≡ swapped_nodes at n z k y
 with_around at n k x y z ne = fun_ext (λ m. grind (arith, nat_tests))
 
@@ -31,7 +31,7 @@ module _ {S : Type 0} (old new : Lookup) (a b : ℕ) (ka kb : Key) (m m' m'' : I
   at_else : (q : Key) → same_key kb q ≡ false → same_key ka q ≡ false → found same_key m'' q ≡ found same_key m q
   at_else q miss miss' = second q ∙ (cond-false (same_key kb q) (Some a) (found same_key m' q) miss ∙ (first q ∙ cond-false (same_key ka q) (Some b) (found same_key m q) miss'))
 
-  -- a node that is named so has that key
+  -- a node with this name has this key
   key_of_named : (at : Lookup) (n : ℕ) (k q : Key) → IsNamed at n k.parent k.name → IsNamed at n q.parent q.name → k ≡ q
   key_of_named at n k q h h' = let e = named_same at n k.parent q.parent k.name q.name h h' in λ i. record { parent = e.0 i; name = e.1 i }
 
@@ -40,7 +40,7 @@ module _ {S : Type 0} (old new : Lookup) (a b : ℕ) (ka kb : Key) (m m' m'' : I
       let same = key_of_named old n k q h (subst (λ i. IsNamed old i q.parent q.name) (sym e) h') in
       let bad : true ≡ false = sym (subst (λ (r : Key). same_key k r ≡ true) same (same_self k)) ∙ miss in cc
 
-  -- who is found at the key of another is that other
+  -- the node found at another node's key is that other node
   is_same_at : (n j : ℕ) (k q : Key) → IsNamed old n k.parent k.name → IsNamed old j q.parent q.name → same_key k q ≡ true → n ≡ j
   is_same_at n j k q h h' hit =
       same_Some n j (sym (indexed.whole q n (subst (λ (r : Key). IsNamed old n r.parent r.name) (key_same k q hit) h)) ∙ indexed.whole q j h')

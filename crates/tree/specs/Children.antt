@@ -1,4 +1,4 @@
--- The parents that nodes name.
+-- The parents of nodes.
 use Rattle.std.specs.Prelude.{ℕ, Option, Some, None}
 use Rattle.tree.specs.declared.nodes.Node.{Node}
 use Rattle.tree.specs.declared.nodes.Place.{Place}
@@ -11,11 +11,11 @@ place_parent place.Root = None
 place_parent (place.Named key) = Some key.parent
 place_parent place.Cut = None
 
--- the parent of a node, if there is the node and it has one
+-- the parent of a node, if the node exists and has one
 abbrev pub node_parent : Option Node → Option ℕ
 node_parent None = None
 node_parent (Some x) = place_parent x.place
 
--- the parents by the numbers of their children
+-- each node's parent, by the number of the node
 abbrev pub parents_in : Lookup → ℕ → Option ℕ
 parents_in at n = node_parent (at n)

@@ -1,4 +1,4 @@
-//! How a tree of stored nodes changes. No step takes memory.
+//! How a tree of stored nodes changes. No step allocates.
 
 ghost use Rattle.std.specs.Prelude.{true, false, ◌≡◌, ◌≢◌, ◌≤◌, ◌+◌, ◌*◌, ◌^◌, ℕ, List, None, Some, vec_len, vec_capacity};
 ghost use Rattle.slab.specs.Slab.{slab_len, HasRoomFor};
@@ -19,7 +19,7 @@ use crate::writes::{Store, find_in, forget_place, mark, replace_place, write_num
 use collections::children::{add_child, key_of, unlinked};
 use collections::steady_map::put;
 
-/// Cuts a node that has no children.
+/// Cuts a node without children.
 pub(crate) fn cut_leaf(store: &mut Store, number: u64)
     requires named { (p : ℕ) × (name : List ℕ) × IsNamed (slot_at store.old.nodes) number p name }
     requires not_root { number ≢ 1 }
@@ -37,7 +37,7 @@ pub(crate) fn cut_leaf(store: &mut Store, number: u64)
     forget_place(store, number, &was);
 }
 
-/// Names the node elsewhere, at a place that is free.
+/// Moves the node to another name, which is free.
 pub(crate) fn place_number(store: &mut Store, number: u64, key: Key, copy: Key)
     requires copy { copy ≡ key }
     requires not_root { number ≢ 1 }
@@ -64,7 +64,7 @@ pub(crate) fn place_number(store: &mut Store, number: u64, key: Key, copy: Key)
     store.named += 1;
 }
 
-/// Makes the place of the key free, but for the node of that number. Whether that node stands there already is the result.
+/// Frees the name, unless the node of that number already has it, which the result says.
 fn make_free(store: &mut Store, newly_cut: &mut Vec<u64>, number: u64, key: &Key) -> bool
     requires can { CanRelink (slot_at store.old.nodes) number key.now.parent key.now.name }
     requires few { slab_len store.old.nodes ≤ 2 ^ 62 }
@@ -95,7 +95,7 @@ fn make_free(store: &mut Store, newly_cut: &mut Vec<u64>, number: u64, key: &Key
     }
 }
 
-/// Moves the node to the key's place, with all below it.
+/// Moves the node to the name, with everything below it.
 pub(crate) fn move_number(
     store: &mut Store,
     newly_cut: &mut Vec<u64>,
@@ -126,7 +126,7 @@ pub(crate) fn move_number(
     place_number(store, number, key, copy);
 }
 
-/// Takes the node out, if it is there.
+/// Removes the node, if it exists.
 pub(crate) fn drop_number(store: &mut Store, number: u64)
     requires stored { IsStored store.old.nodes store.old.index store.old.named }
     requires not_root { number ≢ 1 }
@@ -150,7 +150,7 @@ pub(crate) fn drop_number(store: &mut Store, number: u64)
     }
 }
 
-/// A node is born at the key's place, under the slab's next key, which with one more is the result.
+/// Creates a node at the name. Its number is the slab's next key plus one, and is returned.
 pub(crate) fn create(store: &mut Store, generation: u64, key: Key, copy: Key) -> u64
     requires copy { copy ≡ key }
     requires stored { IsStored store.old.nodes store.old.index store.old.named }

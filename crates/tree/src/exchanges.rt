@@ -1,4 +1,4 @@
-//! An exchange of what stands at two names, in a fixed number of look-ups and writes. It takes no memory.
+//! Exchanges two names, with a fixed number of look-ups and writes. It does not allocate.
 
 ghost use Rattle.std.specs.Prelude.{ℕ, ◌≡◌, ◌≢◌, ◌≤◌, ◌*◌, Option, Some};
 ghost use Rattle.slab.specs.Slab.{Slab, slab_len};
@@ -18,7 +18,7 @@ use collections::children::{Linked, add_child, remove_child};
 use collections::steady_map::set;
 use slab::Slab;
 
-/// Each of the two nodes stands where the other stood.
+/// Gives each of the two nodes the place of the other.
 fn swap_places(nodes: &mut Slab<Linked<Node>>, one: u64, two: u64)
     requires first { IsAlive (slot_at nodes.old) one }
     requires second { IsAlive (slot_at nodes.old) two }
@@ -33,7 +33,7 @@ fn swap_places(nodes: &mut Slab<Linked<Node>>, one: u64, two: u64)
     let _cut = replace_place(nodes, one, second);
 }
 
-/// The child of the one parent has the other parent now.
+/// Moves the child from one parent to the other in the links.
 fn move_child(nodes: &mut Slab<Linked<Node>>, child: u64, from: u64, to: u64)
     requires there { IsAlive (slot_at nodes.old) child }
     requires above { IsAlive (slot_at nodes.old) to }
@@ -46,7 +46,7 @@ fn move_child(nodes: &mut Slab<Linked<Node>>, child: u64, from: u64, to: u64)
     add_child(nodes, child, to);
 }
 
-/// Each of the two nodes has the other's name.
+/// Gives each of the two nodes the other's name.
 fn swap_numbers(store: &mut Store, one: u64, at_one: &Key, two: u64, at_two: &Key)
     requires first { IsNamed (slot_at store.old.nodes) one at_one.now.parent at_one.now.name }
     requires second { IsNamed (slot_at store.old.nodes) two at_two.now.parent at_two.now.name }
@@ -70,7 +70,8 @@ fn swap_numbers(store: &mut Store, one: u64, at_one: &Key, two: u64, at_two: &Ke
     move_child(&mut store.nodes, two, at_two.parent, at_one.parent);
 }
 
-/// What stands at the two names, with all below, changes places. Each name is handed in twice, since one node alone may stand there.
+/// Exchanges what is at the two names, with everything below. Each name is passed twice, since a node may be at only
+/// one of them and then moves to the other.
 pub(crate) fn exchange_names(
     store: &mut Store,
     source: Key,

@@ -1,4 +1,4 @@
-//! A cut that goes to the leaves below a node, and to no other node.
+//! Cutting a node and everything below it, leaf by leaf, without looking at any other node.
 
 ghost use Rattle.std.specs.Prelude.{true, false, ◌≡◌, ◌≢◌, ◌<◌, ◌≤◌, ◌+◌, ◌*◌, ◌^◌, ℕ, List, None, Some, vec_len, vec_capacity};
 ghost use Rattle.slab.specs.Slab.{slab_len};
@@ -14,7 +14,8 @@ use crate::lookups::parent_of;
 use crate::writes::Store;
 use collections::children::newest_child;
 
-/// Cuts the node, and all below it: from it down to a child without children, which goes, and up again. What is cut is listed.
+/// Cuts the node and everything below it: goes down to a child without children, cuts that one, and goes up again. The
+/// numbers of the nodes that are cut are appended to the list.
 pub(crate) fn cut_leaves(store: &mut Store, newly_cut: &mut Vec<u64>, number: u64)
     requires named { (p : ℕ) × (name : List ℕ) × IsNamed (slot_at store.old.nodes) number p name }
     requires few { slab_len store.old.nodes ≤ 2 ^ 62 }
@@ -44,6 +45,7 @@ pub(crate) fn cut_leaves(store: &mut Store, newly_cut: &mut Vec<u64>, number: u6
                     unreachable!();
                 };
                 cut_leaf(store, current);
+                // There is room for the number of each named node, so the end of a request does not allocate.
                 newly_cut.push_reserved(current);
                 if current == number {
                     return;

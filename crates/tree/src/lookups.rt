@@ -1,4 +1,4 @@
-//! What nodes in a slab tell.
+//! Reading the nodes in a slab.
 
 ghost use Rattle.std.specs.Prelude.{true, false, ◌≡◌, ◌≢◌, ◌<◌, ◌≤◌, ◌+◌, ◌^◌, ◌↔◌, ℕ, List, [], ◌∷◌, ◌++◌, None, Some, IfNone, IfSome, IfOk, IfErr, OnOk, IsTrue, length};
 ghost use Rattle.std.specs.Option.{option_copied};
@@ -21,17 +21,17 @@ use std::alloc::{AllocError, Global};
 /// No path has more bytes.
 const PATH_BYTES: usize = 4096;
 
-/// No path of names that are not empty has more of them.
+/// No path has more names than this if none of them is empty.
 const PATH_NAMES: usize = PATH_BYTES / 2;
 
-/// The node of that number.
+/// The node with that number.
 pub(crate) fn node_in(nodes: &Slab<Linked<Node>>, number: u64) -> Option<&Node>
     ensures { option_copied result ≡ slot_at nodes.now number }
 {
     value_in(nodes, number)
 }
 
-/// The number that the node of that number is named under.
+/// The number of the node's parent, if the node has a name.
 pub(crate) fn parent_of(nodes: &Slab<Linked<Node>>, number: u64) -> Option<u64>
     ensures none { IfNone result ((p : ℕ) (name : List ℕ) → IsNamed (slot_at nodes.now) number p name → ⊥) }
     ensures some { IfSome result (λ p. (name : List ℕ) × IsNamed (slot_at nodes.now) number p name) }
@@ -44,7 +44,7 @@ pub(crate) fn parent_of(nodes: &Slab<Linked<Node>>, number: u64) -> Option<u64>
     }
 }
 
-/// Whether following parents meets the other number.
+/// Whether following parents from the node leads to the other number.
 pub(crate) fn climbs_to(nodes: &Slab<Linked<Node>>, number: u64, other: u64) -> bool
     requires short { (way : Names) → Reaches (slot_at nodes.now) other number way → length way < slab_len nodes.now }
     ensures yes { result ≡ true → IsBelow (slot_at nodes.now) other number }
@@ -63,7 +63,7 @@ pub(crate) fn climbs_to(nodes: &Slab<Linked<Node>>, number: u64, other: u64) -> 
     false
 }
 
-/// The least number above that one that a node bears.
+/// The least number of a node above `number`.
 pub(crate) fn next_alive(nodes: &Slab<Linked<Node>>, number: u64) -> Option<u64>
     ensures none { IfNone result ((n : ℕ) → IsAlive (slot_at nodes.now) n → n ≤ number) }
     ensures some { IfSome result (IsNextAlive (slot_at nodes.now) number) }
@@ -76,7 +76,7 @@ pub(crate) fn next_alive(nodes: &Slab<Linked<Node>>, number: u64) -> Option<u64>
     None
 }
 
-/// Tests that the node has a path.
+/// Checks that the node has a path.
 pub(crate) fn expect_path(nodes: &Slab<Linked<Node>>, number: u64) -> Result<(), TreeFault>
     requires { IsTree (slot_at nodes.now) }
     ensures ok { OnOk result (Leads (slot_at nodes.now) number) }
@@ -92,7 +92,7 @@ pub(crate) fn expect_path(nodes: &Slab<Linked<Node>>, number: u64) -> Result<(),
     }
 }
 
-/// How many names lead from the root down to the node, but no more than a path has.
+/// How many names lead from the root to the node, at most as many as a path has.
 fn depth_of(nodes: &Slab<Linked<Node>>, number: u64) -> usize
     ensures { result ≤ 2048 }
 {
@@ -106,7 +106,8 @@ fn depth_of(nodes: &Slab<Linked<Node>>, number: u64) -> usize
     PATH_NAMES
 }
 
-/// No names yet, with room for those that lead to the node and so many more: a path is gathered in one allocation.
+/// An empty list with room for the names of the node's path and for `more` names, so that a path is collected with one
+/// allocation.
 pub(crate) fn room_for_path(
     alloc: Global,
     nodes: &Slab<Linked<Node>>,
@@ -123,7 +124,8 @@ pub(crate) fn room_for_path(
     }
 }
 
-/// The path that goes from the root down to the node, and then by the names handed in, which run upwards and have so many bytes.
+/// The path from the root to the node, followed by the names in `below`. Those are in reverse order and have
+/// `below_bytes` bytes.
 pub(crate) fn climb(
     nodes: &Slab<Linked<Node>>,
     number: u64,
@@ -158,7 +160,7 @@ pub(crate) fn climb(
     unreachable!()
 }
 
-/// The path that goes from the root down to the node, however many bytes it has.
+/// The path from the root to the node, whatever its length.
 pub(crate) fn way_to(
     alloc: Global,
     nodes: &Slab<Linked<Node>>,
@@ -189,7 +191,7 @@ pub(crate) fn way_to(
     unreachable!()
 }
 
-/// The path of these names.
+/// The path with these names.
 fn path_of(names: Vec<Name>) -> Result<Path, TreeFault>
     ensures ok { IfOk result (λ p. p ≡ names.items) }
     ensures err { IfErr result (λ fault. fault ≡ TreeFault.Memory) }
@@ -200,7 +202,7 @@ fn path_of(names: Vec<Name>) -> Result<Path, TreeFault>
     }
 }
 
-/// Puts a copy of the name behind the others, which have so many bytes. The bytes of all are the result.
+/// Appends a copy of the name to names that have `bytes` bytes, and returns the bytes of all.
 pub(crate) fn add_name(names: &mut Vec<Name>, bytes: usize, name: &Name) -> Result<usize, TreeFault>
     requires { bytes ≤ 4096 }
     ensures ok { IfOk result (λ sum. (sum ≡ bytes + length name.now + 1) × (sum ≤ 4096)) }
@@ -220,7 +222,7 @@ pub(crate) fn add_name(names: &mut Vec<Name>, bytes: usize, name: &Name) -> Resu
     }
 }
 
-/// The least number from 1 on that no node bears.
+/// The least number from 1 on that no node has.
 pub(crate) fn least_free(nodes: &Slab<Linked<Node>>) -> u64
     requires tree { IsTree (slot_at nodes.now) }
     requires few { slab_len nodes.now ≤ 2 ^ 62 }

@@ -1,4 +1,4 @@
-//! Nodes, their names and their children as they are stored, and writes of one node. Only `make_room` takes memory.
+//! Nodes, their names and their children as they are stored, and writes to one node. Only `make_room` allocates.
 
 ghost use Rattle.std.specs.Prelude.{◌≡◌, ◌<◌, ◌≤◌, ◌+◌, ◌*◌, ℕ, Option, None, Some, if◌then◌else◌, OnOk};
 ghost use Rattle.slab.specs.Slab.{Slab, get, slab_len, ContainsKey, Updates};
@@ -23,24 +23,24 @@ use std::alloc::AllocError;
 use std::hash::RandomState;
 use std::mem;
 
-/// The nodes, and where to find them.
+/// The nodes, and the index of their names.
 #[derive(Drop)]
 pub(crate) struct Store {
-    /// The nodes, and who is named under whom.
+    /// The nodes, with the links among the children of each.
     pub(crate) nodes: Slab<Linked<Node>>,
     pub(crate) index: IndexMap<Key, Option<u64>, RandomState>,
     /// How many nodes are named.
     pub(crate) named: usize,
 }
 
-/// The number of the node that is named so.
+/// The number of the node with this name.
 pub(crate) fn find_in(index: &IndexMap<Key, Option<u64>, RandomState>, key: &Key) -> Option<u64>
     ensures { result ≡ found same_key index.now key.now }
 {
     value_of(index, key)
 }
 
-/// Writes where the node stands, and answers where it stood.
+/// Writes the node's place, and returns the place before.
 pub(crate) fn replace_place(nodes: &mut Slab<Linked<Node>>, number: u64, place: Place) -> Place
     requires { IsAlive (slot_at nodes.old) number }
     ensures was { (x : Node) → slot_at nodes.old number ≡ Some x → result ≡ x.place }
@@ -56,7 +56,7 @@ pub(crate) fn replace_place(nodes: &mut Slab<Linked<Node>>, number: u64, place: 
     mem::replace(&mut linked.value.place, place)
 }
 
-/// Writes the hidden mark of a node.
+/// Writes the node's hidden mark.
 pub(crate) fn mark(nodes: &mut Slab<Linked<Node>>, number: u64, hidden: bool)
     requires { IsAlive (slot_at nodes.old) number }
     ensures wrote { (x : Node) → slot_at nodes.old number ≡ Some x → slot_at nodes.new ≡ with_node (slot_at nodes.old) number (record x { hidden = hidden }) }
@@ -71,7 +71,7 @@ pub(crate) fn mark(nodes: &mut Slab<Linked<Node>>, number: u64, hidden: bool)
     linked.value.hidden = hidden;
 }
 
-/// Writes the lookup count of a node.
+/// Writes the node's lookup count.
 fn count_as(nodes: &mut Slab<Linked<Node>>, number: u64, count: u64)
     requires { IsAlive (slot_at nodes.old) number }
     ensures wrote { (x : Node) → slot_at nodes.old number ≡ Some x → slot_at nodes.new ≡ with_node (slot_at nodes.old) number (record x { count = count }) }
@@ -86,7 +86,7 @@ fn count_as(nodes: &mut Slab<Linked<Node>>, number: u64, count: u64)
     linked.value.count = count;
 }
 
-/// Gives the node its hidden mark, or takes it away.
+/// Sets or removes the node's hidden mark.
 pub(crate) fn write_hidden(store: &mut Store, number: u64, hidden: bool)
     requires alive { IsAlive (slot_at store.old.nodes) number }
     requires stored { IsStored store.old.nodes store.old.index store.old.named }
@@ -101,7 +101,7 @@ pub(crate) fn write_hidden(store: &mut Store, number: u64, hidden: bool)
     mark(&mut store.nodes, number, hidden);
 }
 
-/// Gives the node another lookup count.
+/// Sets the node's lookup count.
 pub(crate) fn write_count(store: &mut Store, number: u64, count: u64)
     requires alive { IsAlive (slot_at store.old.nodes) number }
     requires stored { IsStored store.old.nodes store.old.index store.old.named }
@@ -116,7 +116,7 @@ pub(crate) fn write_count(store: &mut Store, number: u64, count: u64)
     count_as(&mut store.nodes, number, count);
 }
 
-/// Takes the number out of the index, and away from its parent, where the place that it has left had a name.
+/// If the node's old place had a name, removes the name from the index and the node from its parent.
 pub(crate) fn forget_place(store: &mut Store, number: u64, place: &Place)
     requires counted { store.old.named ≡ live store.old.index }
     requires there { (key : Key) → place.now ≡ Place.Named key → (n : ℕ) × (found same_key store.old.index key ≡ Some n) }
@@ -142,7 +142,7 @@ pub(crate) fn forget_place(store: &mut Store, number: u64, place: &Place)
     }
 }
 
-/// Writes the number of the node under the key, which is the result.
+/// Writes the node's number, which is its key plus one, and returns it.
 pub(crate) fn write_number(nodes: &mut Slab<Linked<Node>>, key: usize) -> u64
     requires there { ContainsKey nodes.old key }
     requires within { key < nodes.old.capacity }
@@ -158,7 +158,7 @@ pub(crate) fn write_number(nodes: &mut Slab<Linked<Node>>, key: usize) -> u64
     number
 }
 
-/// Makes room for so many births. Without memory nothing is seen to change.
+/// Makes room for `n` births. If memory is refused, no visible change is made.
 pub(crate) fn make_room(store: &mut Store, n: usize) -> Result<(), AllocError>
     requires stored { IsStored store.old.nodes store.old.index store.old.named }
     ensures ok { OnOk result ((slab_len store.new.nodes + n ≤ store.new.nodes.capacity) × (2 * (store.new.named + n) ≤ places store.new.index)) }

@@ -1,4 +1,4 @@
--- What is written of a request is that request.
+-- What is written for a request is that request.
 use Rattle.std.proofs.Common.{◌≡◌, ℕ, zero, suc, ◌+◌, ◌*◌, ◌/◌, ◌^◌, ◌<◌, ◌≤◌, List, [], ◌∷◌, ◌++◌, length, get_or, drop, Option, Some, None, refl, sym, ap, subst, ◌∙◌, arith}
 use Rattle.std.proofs.lemmas.List.{drop_at, take_at, length-take, length-append, length-drop, get_or-drop, get_or-append-add}
 use Rattle.std.proofs.Math.Nat.{div-zero, mul-div_cancel_left}
@@ -43,7 +43,7 @@ count_again (suc u) k len limit e lt le =
     let q : len / suc u ≡ k = rw e (mul-div_cancel_left k above) in
     (omega arith, omega arith, rw q e)
 
--- what fields tell can stand in them
+-- the values of fields fit in them
 pub told_again : (fields : List Field) (values : List Value) (body : List ℕ) → IsBytes body → Spells fields values body → CanTell fields values
 told_again [] [] body fits s = tt
 told_again (number len ∷ fields) (num n ∷ values) body fits s =
@@ -58,7 +58,7 @@ told_again (limited limit ∷ fields) (num n ∷ values) body fits s =
 told_again (anything ∷ []) [] body fits s = tt
 told_again _ _ body fits s = absurd s
 
--- what can stand in fields is read of what is written of it
+-- values that fit in fields are read back from what is written
 pub written_spelled : (fields : List Field) (values : List Value) → CanTell fields values → Spells fields values (written fields values)
 unfolding le
 written_spelled [] [] h = refl

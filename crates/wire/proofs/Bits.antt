@@ -1,9 +1,9 @@
--- The flag bits that are taken.
+-- The flag bits that are accepted.
 use Rattle.std.proofs.Common.{◌≡◌, ℕ, ◌+◌, ◌*◌, ◌/◌, ◌%◌, ◌^◌, ◌<◌, bit_and, sym, ap, ◌∙◌, arith}
 use Rattle.std.proofs.lemmas.Nat.{and_block, and_comm, and_mask, shr_split}
 use Rattle.wire.specs.Negotiation.{agreed_flags}
 
--- the k lowest bits and the others
+-- the k lowest bits and the others, separately
 block : (k a s n : ℕ) → s < 2 ^ k → bit_and (a * 2 ^ k + s) n ≡ bit_and a (n / 2 ^ k) * 2 ^ k + bit_and s (n % 2 ^ k)
 block k a s n low = ap (λ x. bit_and (a * 2 ^ k + s) x) (sym (shr_split n k)) ∙ and_block k a (n / 2 ^ k) s (n % 2 ^ k) low (omega arith)
 

@@ -1,4 +1,4 @@
--- A frame that is handed out is the front of what was kept.
+-- A frame that is removed is the front of the kept bytes.
 use Rattle.std.proofs.Common.{◌≡◌, ℕ, ◌+◌, List, [], ◌∷◌, ◌++◌, length, take, drop, sym, ap, ◌∙◌, refl, arith, append_assoc, inl, inr}
 use Rattle.std.proofs.lemmas.List.{take-append-drop, length-take-le, take_at, append_cancel_left, length-append}
 use Rattle.byteorder.specs.Endian.{little_number}
@@ -22,7 +22,7 @@ handed kept frame len whole is =
       },
     )
 
--- two frames at the front of one stream are one
+-- two frames at the front of one stream are equal
 one_front : (f g x y : List ℕ) → IsFramed f → IsFramed g → f ++ x ≡ g ++ y → (f ≡ g) × (x ≡ y)
 one_front f g x y a b e =
     let la = a.long in
@@ -33,7 +33,7 @@ one_front f g x y a b e =
     let same : f ≡ g = sym (take_at f x (length f) refl) ∙ ap (take (length f)) e ∙ take_at g y (length f) (sym len) in
     (same, append_cancel_left g x y (ap (λ (h : List ℕ). h ++ x) (sym same) ∙ e))
 
--- no other frames are the stream, nor another rest
+-- a stream has no other frames and no other rest
 pub one_split : (fs gs : List (List ℕ)) (r q stream : List ℕ) → Splits stream fs r → Splits stream gs q → (fs ≡ gs) × (r ≡ q)
 one_split [] [] r q stream a b = (refl, sym a.whole ∙ b.whole)
 one_split [] (g ∷ gs) r q stream a b = absurd (a.ends g (joined gs ++ q) b.each.0 (sym a.whole ∙ b.whole ∙ append_assoc g (joined gs) q))
@@ -43,7 +43,7 @@ one_split (f ∷ fs) (g ∷ gs) r q stream a b =
     let rest = one_split fs gs r q (joined fs ++ r) (record { whole = refl; each = a.each.1; ends = a.ends }) (record { whole = front.1; each = b.each.1; ends = b.ends }) in
     (cc, rest.1)
 
--- where neither a frame stands next nor a bad length, no whole frame does
+-- if the bytes begin neither with a frame nor with a bad length, they begin with no whole frame
 pub partial_ends : (rest : List ℕ) → IsPartial rest → (frame more : List ℕ) → IsFramed frame → rest ≡ frame ++ more → ⊥
 partial_ends rest p frame more a e =
     let la = a.long in

@@ -7,7 +7,7 @@ use Rattle.wire.specs.Fields.{Field, number, Value, num, CanTell}
 use Rattle.wire.proofs.Lengths.{cat_assoc}
 use Rattle.wire.specs.Written.{le, zeros, u16s, u32s, written}
 
--- numbers of so many bytes, and then other fields
+-- numbers of these lengths, followed by other fields
 pub tells_on : (lens : List ℕ) (vs : List Value) (gs : List Field) (ws : List Value) → CanTell (map number lens) vs → CanTell gs ws → CanTell (map number lens ++ gs) (vs ++ ws)
 tells_on [] [] gs ws h k = k
 tells_on (len ∷ lens) (num n ∷ vs) gs ws h k = (h.0, tells_on lens vs gs ws h.1 k)
@@ -27,7 +27,7 @@ pub init_parts : (i : InitOut) → written init_layout (init_values i) ≡ u32s 
 unfolding le u16s u32s
 init_parts i = refl
 
--- what is not read, as numbers
+-- bytes that are not read, as numbers
 pub unread_long : zeros 8 ≡ le 8 0
 unfolding le zeros
 unread_long = refl

@@ -1,4 +1,4 @@
--- Fields that are read in full determine their bytes.
+-- Fields that are read completely determine their bytes.
 use Rattle.std.proofs.Common.{◌≡◌, ℕ, zero, suc, ◌+◌, ◌*◌, ◌/◌, ◌%◌, ◌^◌, ◌<◌, ◌≤◌, List, [], ◌∷◌, ◌++◌, length, drop, refl, sym, ap, ◌∙◌, arith}
 use Rattle.std.proofs.lemmas.List.{take-append-drop}
 use Rattle.std.proofs.Math.Nat.{div-div-eq-div-mul, pow-succ'}
@@ -9,7 +9,7 @@ use Rattle.wire.specs.Fields.{Field, number, unread, raw, text, counted, limited
 use Rattle.wire.specs.Written.{le, written}
 use Rattle.wire.proofs.Again.{IsBytes-drop, IsBytes-rest}
 
--- a byte below a number moves its places on
+-- a byte in front of a number moves its bytes up by one place
 byte_above : (j b m : ℕ) → b < 256 → byte_at (suc j) (b + 256 * m) ≡ byte_at j m
 byte_above zero b m lt = let q : (b + 256 * m) / 256 ≡ m = omega arith in ap (λ (x : ℕ). x % 256) q
 byte_above (suc j) b m lt =
@@ -32,7 +32,7 @@ front_again (suc k) (b ∷ body) fits h =
     let low : (b + 256 * m) % 256 ≡ b = omega arith in
     rw (moved, low, bytes_above 0 k b m lt, front_again k body (λ i. fits (suc i)) (omega arith)) refl
 
--- no byte of these fields is left unread
+-- none of these fields has unread bytes
 abbrev pub AreRead : List Field → Type 0
 AreRead [] = Unit {0}
 AreRead (number _ ∷ fields) = AreRead fields

@@ -1,4 +1,4 @@
--- What reading a body gives is what the body spells, and it fails only where the body spells nothing.
+-- Reading a body gives the values that the body spells, and it fails only if the body spells none.
 use Rattle.std.proofs.Common.{◌≡◌, ◌≢◌, ℕ, ◌+◌, ◌*◌, ◌<◌, ◌≤◌, Bool, true, false, cond, eqb, ltb, leb, not, ◌&&◌, List, [], ◌∷◌, ◌++◌, length, get_or, take, drop, All, Option, Some, None, Result, Ok, Err, refl, sym, ap, subst, ◌∙◌, arith}
 use Rattle.std.specs.Prelude.{MatchResult, IfErr}
 use Rattle.std.specs.List.{position, position_or_len}
@@ -44,7 +44,7 @@ pub record IsText (body t rest : List ℕ) : Type 0 where
 not_zero : (n : ℕ) → n ≢ 0 → is_zero n ≡ false
 not_zero n h = elim (is_zero n) as (λ b. is_zero n ≡ b → b ≡ false) [ true ↦ λ e. absurd (h (eqb-true n 0 e)) | false ↦ λ e. refl ] refl
 
--- the place of the zero byte behind a text without one
+-- the position of the zero byte after a text without one
 zero_place : (t rest : List ℕ) → All (λ b. b ≢ 0) t → position_or_len is_zero (t ++ 0 ∷ rest) ≡ length t
 zero_place t rest fits =
     position_or_len_is is_zero (t ++ 0 ∷ rest) (length t) 0
@@ -112,7 +112,7 @@ counted_again unit gap limit body d s =
 abbrev first_then : Value → List Value → Result (List Value) WireFault
 first_then v values = Ok (v ∷ values)
 
--- nothing is left
+-- the body ends here
 ended_ok : (body : List ℕ) (x : Bool) → ended body ≡ Ok x → body ≡ []
 ended_ok body x e = nil_from_length body (eqb-true _ _ (guard_else (eqb (length body) 0) Body true x e).0)
 
@@ -183,7 +183,7 @@ spelled_values (limited limit ∷ fields) (num n ∷ values) body s =
 spelled_values (anything ∷ []) [] body s = refl
 spelled_values _ _ body s = absurd s
 
--- ---- a body that cannot be read fails as a body
+-- ---- a body that cannot be read gives the fault Body
 
 abbrev OnlyBody : {A : Type 0} → Result A WireFault → Type 0
 OnlyBody r = IfErr r (λ d. d ≡ Body)

@@ -1,4 +1,4 @@
--- How long what is written is.
+-- The lengths of what is written.
 use Rattle.std.proofs.Common.{◌≡◌, ℕ, ◌+◌, ◌/◌, List, ◌++◌, length, append_assoc, append-nil, [], arith}
 use Rattle.std.proofs.lemmas.List.{length-replicate, length-append}
 use Rattle.byteorder.specs.Numbers.{length-bytes_low_first}
@@ -21,7 +21,7 @@ cat_assoc a b c = append_assoc a b c
 pub cat_nil : (a : List ℕ) → a ++ [] ≡ a
 cat_nil a = append-nil a
 
--- a unit of one byte
+-- one byte per unit
 pub whole : (n : ℕ) → n / 1 ≡ n
 whole n = omega arith
 

@@ -1,4 +1,4 @@
--- Entries of a folder as runs of numbers, a name and zeros.
+-- Directory entries as numbers, a name and zeros.
 use Rattle.std.proofs.Common.{◌≡◌, ℕ, ◌+◌, ◌^◌, ◌<◌, List, ◌++◌, length, map, replicate, refl, ap, lit<, arith, Option, Some, None}
 use Rattle.wire.specs.declared.reply.Entry.{Entry}
 use Rattle.wire.specs.declared.reply.Kind.TheVariants.{File, Folder}

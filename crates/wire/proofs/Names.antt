@@ -22,7 +22,7 @@ is_utf8-false t refused = false_from_ne_true (is_utf8 t) (λ e. refused (IsUtf8-
 abbrev is_slash : ℕ → Bool
 is_slash b = eqb b 47
 
--- what a test says before a step
+-- the result of a test before a step
 pub bind_both : {A B : Type 0} (b : Bool) (x : A) (d : WireFault) (f : A → Result B WireFault) (P : Result B WireFault → Type 0) → (b ≡ true → P (f x)) → (b ≡ false → P (Err d)) → P (cond b (Ok x) (Err d) >>= f)
 bind_both true x d f P h k = h refl
 bind_both false x d f P h k = k refl
@@ -93,12 +93,12 @@ no_name_fault t Opcode n f = f
 no_name_fault t Body n f = f
 no_name_fault t Frame n f = f
 
--- names that are all lawful have no first fault
+-- if all names are lawful, there is no first name fault
 pub no_first_fault : (ts : List (List ℕ)) (d : WireFault) → AllByRecursion IsName ts → IsFirstNameFault ts d → ⊥
 no_first_fault [] d all f = f
 no_first_fault (t ∷ ts) d all f = elim f [ inl one ↦ no_name_fault t d all.0 one | inr rest ↦ no_first_fault ts d all.1 rest.1 ]
 
--- a fault of a name is one of the two
+-- a name fault is one of the two
 pub name_faults : (ts : List (List ℕ)) (d : WireFault) → IsFirstNameFault ts d → (d ≡ NameLong) ⊎ (d ≡ NameBad)
 name_faults [] d f = absurd f
 name_faults (t ∷ ts) NameLong f = inl refl

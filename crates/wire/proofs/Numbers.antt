@@ -1,4 +1,4 @@
--- The numbers of the protocol, as `fuse.h` has them: a constant that is changed does not pass here.
+-- The numbers of the protocol, as in `fuse.h`: if a constant is changed, this proof fails.
 use Rattle.std.proofs.Common.{ℕ, ◌≡◌, List, [], ◌∷◌, refl}
 use Rattle.wire.specs.declared.dirents.TheConstants.{DIRENT_LEN, NO_INO}
 use Rattle.wire.specs.declared.opcode.TheConstants.{LOOKUP, FORGET, GETATTR, SETATTR, MKDIR, UNLINK, RMDIR, RENAME, OPEN, READ, WRITE, STATFS, RELEASE, FSYNC, FLUSH, INIT, OPENDIR, READDIR, RELEASEDIR, FSYNCDIR, CREATE, INTERRUPT, DESTROY, BATCH_FORGET, READDIRPLUS, RENAME2}
@@ -10,7 +10,7 @@ pub opcodes_are : ◌≡◌ {A = List ℕ}
     (1 ∷ 2 ∷ 3 ∷ 4 ∷ 9 ∷ 10 ∷ 11 ∷ 12 ∷ 14 ∷ 15 ∷ 16 ∷ 17 ∷ 18 ∷ 20 ∷ 25 ∷ 26 ∷ 27 ∷ 28 ∷ 29 ∷ 30 ∷ 35 ∷ 36 ∷ 38 ∷ 42 ∷ 44 ∷ 45 ∷ [])
 opcodes_are = refl
 
--- bytes of what stands in frames
+-- the lengths of what frames contain
 pub lengths_are : ◌≡◌ {A = List ℕ}
     (HEADER_LEN ∷ REPLY_HEADER_LEN ∷ ENTRY_LEN ∷ ATTRIBUTES_LEN ∷ STATFS_LEN ∷ INIT_LEN ∷ OPENED_LEN ∷ CREATED_LEN ∷ WROTE_LEN ∷ DIRENT_LEN ∷ [])
     (40 ∷ 16 ∷ 128 ∷ 104 ∷ 80 ∷ 64 ∷ 16 ∷ 144 ∷ 8 ∷ 24 ∷ [])

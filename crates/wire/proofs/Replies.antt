@@ -1,4 +1,4 @@
--- What is written of a reply is that reply, and no other bytes are.
+-- What is written for a reply is that reply, and no other bytes are.
 use Rattle.std.proofs.Common.{◌≡◌, ℕ, ◌+◌, ◌^◌, ◌<◌, ◌≤◌, List, ◌∷◌, ◌++◌, length, drop, refl, sym, ap, ◌∙◌, arith, neg_ℤ, ℤ, FitsSigned, rules}
 use Rattle.std.specs.Int.{cast_signed, cast_unsigned, w32}
 use Rattle.std.proofs.lemmas.Int.{ints, to_z-of_z, of_z-to_z}

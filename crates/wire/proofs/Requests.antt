@@ -1,4 +1,4 @@
--- What reading a frame gives is the request that the frame is, or the first fault.
+-- Reading a frame gives the request that the frame is, or the first fault.
 use Rattle.std.proofs.Common.{◌≡◌, ℕ, true, eqb, leb, ◌&&◌, List, length, Option, Some, None, Result, Ok, Err, refl, sym, ap, subst, ◌∙◌, inl, inr}
 use Rattle.std.specs.Prelude.{MatchResult, IfOk, IfErr, IsSome, IsOkAnd}
 use Rattle.std.specs.List.{AllByRecursion}
@@ -15,7 +15,7 @@ use Rattle.wire.specs.Reading.{◌>>=◌, Gives, values_at, named, operation_by,
 use Rattle.wire.proofs.Fields.{values_law, spelled_values}
 use Rattle.wire.proofs.Names.{bind_both, named_law, name_faults, no_first_fault}
 
--- why a body of these fields is none
+-- why a body does not have these fields
 abbrev OperationFault : Option (List Field) → List ℕ → WireFault → Type 0
 OperationFault o body Opcode = o ≡ None
 OperationFault o body Body = IsSome o × ((values : List Value) → IsLaidOut o values body → ⊥)
@@ -69,7 +69,7 @@ framed_from frame e =
 framed_test : (frame : List ℕ) → IsFramed frame → is_framed frame ≡ true
 framed_test frame h = and_from _ _ (and_from _ _ (le-leb _ _ h.long) (le-leb _ _ h.short)) (eq-eqb _ _ h.len)
 
--- what was read of a frame
+-- what reading a frame returned
 record Tells (frame : List ℕ) (x : ℕ × ℕ × (ℕ × List Value)) : Type 0 where
   framed : IsFramed frame
   unique : x.0 ≡ unique_in frame
@@ -118,7 +118,7 @@ operation_again (Some fields) opcode body values s all =
       | Err d ↦ λ first. absurd (no_first_fault (names_in values) d all first)
     ] (named_law values))
 
--- a frame that is a request reads as it
+-- a frame that is a request is read as that request
 pub request_again : (frame : List ℕ) (q : Request) → IsRequest frame q → request_at frame ≡ Ok (told_request q)
 unfolding request_at operation_at
 request_again frame q h =

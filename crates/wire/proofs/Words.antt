@@ -1,10 +1,10 @@
--- Words of an array that is taken apart, with what comes after them.
+-- The words of an array that is taken apart, followed by other bytes.
 use Rattle.std.proofs.Common.{◌≡◌, ℕ, zero, suc, ◌+◌, List, [], ◌++◌, length, get_or, drop, ap, ◌∙◌, append_assoc, arith}
 use Rattle.std.proofs.Math.Seq.{drop-cons}
 use Rattle.std.proofs.Math.ListN.{drop_of_length-le}
 use Rattle.wire.specs.Written.{joined}
 
--- so many of the words from a place on, one by one, and then other bytes
+-- that many of the words, one by one from an index on, and then other bytes
 abbrev pub one_by_one : ℕ → ℕ → List (List ℕ) → List ℕ → List ℕ
 one_by_one zero k words rest = rest
 one_by_one (suc n) k words rest = get_or words k [] ++ one_by_one n (suc k) words rest

@@ -1,4 +1,4 @@
--- Names of a folder, as READDIR and READDIRPLUS tell them.
+-- Directory entries, as READDIR and READDIRPLUS return them.
 use Rattle.std.specs.Prelude.{ℕ, ◌+◌, ◌-◌, ◌%◌, List, [], ◌∷◌, ◌++◌, length, map, Option, Some, None}
 use Rattle.wire.specs.declared.dirents.TheConstants.{DIRENT_LEN, NO_INO}
 use Rattle.wire.specs.declared.reply.Entry.{Entry}
@@ -10,26 +10,26 @@ use Rattle.wire.specs.Written.{zeros, written}
 
 -- ---- an entry of READDIR
 
--- its inode number, where the next one stands, what it is, and its name
+-- its inode number, the offset of the next entry, its type, and its name
 pub record Dirent : Type 0 where
   pub ino : ℕ
   pub next : ℕ
   pub kind : Kind
   pub name : List ℕ
 
--- a directory, or a regular file
+-- the type: directory or regular file
 abbrev pub type_of : Kind → ℕ
 type_of Folder = 4
 type_of File = 8
 
--- how many zeros fill so many bytes up to a multiple of 8
+-- how many zeros fill up that many bytes to a multiple of 8
 abbrev pub padding : ℕ → ℕ
 padding len = (8 - len % 8) % 8
 
 abbrev pub padding_of : List ℕ → ℕ
 padding_of name = padding (DIRENT_LEN + length name)
 
--- ino, off, namelen, type; the name, and zeros
+-- ino, off, namelen, type; the name, and padding
 abbrev pub dirent_layout : Dirent → List Field
 dirent_layout d = u64 ∷ u64 ∷ u32 ∷ u32 ∷ raw (length d.name) ∷ raw (padding_of d.name) ∷ []
 
@@ -43,8 +43,8 @@ IsDirent d body = Spells (dirent_layout d) (dirent_values d) body
 unfoldable pub dirent_bytes : Dirent → List ℕ
 dirent_bytes d = written (dirent_layout d) (dirent_values d)
 
--- ---- an entry of READDIRPLUS: the node that is given with it, if any, and then as above. Its padding is the same, since an entry of a
--- node has a multiple of 8 bytes.
+-- ---- an entry of READDIRPLUS: the entry's node, if it was looked up, and then as above. The padding is the same,
+-- since the entry of a node has a multiple of 8 bytes.
 
 pub record PlusDirent : Type 0 where
   pub entry : Option Entry
@@ -59,7 +59,7 @@ ino_of None = NO_INO
 abbrev pub dirent_in : PlusDirent → Dirent
 dirent_in p = record { ino = ino_of p.entry; next = p.next; kind = p.kind; name = p.name }
 
--- where no node is given, all is zero
+-- if it was not looked up, everything is zero
 abbrev pub given_values : Option Entry → List Value
 given_values (Some e) = entry_values e
 given_values None = map (λ _. num 0) entry_layout

@@ -1,32 +1,32 @@
--- What stands in the body of a frame: fields, one after another. A field is said by how its bytes read.
+-- The fields of a frame's body, one after another. A field is defined by how its bytes are read.
 use Rattle.std.specs.Prelude.{◌≡◌, ◌≢◌, ℕ, ◌+◌, ◌*◌, ◌^◌, ◌<◌, ◌≤◌, List, [], ◌∷◌, ◌++◌, length, take, drop, All, slice_index}
 use Rattle.byteorder.specs.Endian.{little_number}
 
--- what stands in one place of a body
+-- one field of a body
 pub data Field : Type 0 where
-  -- a number of so many bytes, the lowest first
+  -- a number of that many bytes, little-endian
   number : ℕ → Field
-  -- so many bytes that are not read
+  -- that many bytes that are not read
   unread : ℕ → Field
-  -- so many bytes
+  -- that many bytes
   raw : ℕ → Field
-  -- a text with no zero byte in it, and a zero byte
+  -- a text without a zero byte, and a zero byte
   text : Field
-  -- a number of four bytes that is at most limit, so many bytes that are not read, and, up to the end,
-  -- unit times as many bytes as the number says
+  -- a four-byte number that is at most limit, gap bytes that are not read, and then, up to the end, unit times as many
+  -- bytes as the number says
   counted : (unit gap limit : ℕ) → Field
-  -- a number of four bytes that is at most limit
+  -- a four-byte number that is at most limit
   limited : ℕ → Field
   -- any bytes up to the end
   anything : Field
 
--- what a field tells
+-- the value of a field
 pub data Value : Type 0 where
   num : ℕ → Value
   name : List ℕ → Value
   bytes : List ℕ → Value
 
--- The body is these fields, one after another and nothing after the last, and tells these values.
+-- The body consists of these fields and nothing more, and has these values.
 abbrev pub Spells : List Field → List Value → List ℕ → Type 0
 Spells [] [] body = body ≡ []
 Spells (number len ∷ fields) (num n ∷ values) body = (len ≤ length body) × (n ≡ little_number len body) × Spells fields values (drop len body)
@@ -39,7 +39,7 @@ Spells (limited limit ∷ fields) (num n ∷ values) body = (4 ≤ length body) 
 Spells (anything ∷ []) [] body = Unit {0}
 Spells _ _ _ = ⊥
 
--- These values can stand in such fields.
+-- Such fields can hold these values.
 abbrev pub CanTell : List Field → List Value → Type 0
 CanTell [] [] = Unit {0}
 CanTell (number len ∷ fields) (num n ∷ values) = (n < 256 ^ len) × CanTell fields values
@@ -60,6 +60,6 @@ u32 = number 4
 abbrev pub u64 : Field
 u64 = number 8
 
--- a list that is one of bytes
+-- every element is a byte
 abbrev pub IsBytes : List ℕ → Type 0
 IsBytes body = (i : ℕ) → slice_index body i < 256

@@ -9,7 +9,7 @@ use Rattle.wire.specs.declared.greeting.Negotiated.TheVariants.{Use, Again, Refu
 abbrev pub agreed_flags : ℕ → ℕ
 agreed_flags flags = 2 ^ 0 * bit_at flags 0 + 2 ^ 5 * bit_at flags 5 + 2 ^ 13 * bit_at flags 13 + 2 ^ 18 * bit_at flags 18 + 2 ^ 22 * bit_at flags 22
 
--- with this version, and so far ahead
+-- with this minor version and this limit on reading ahead
 abbrev pub agreement : (minor max_readahead flags : ℕ) → InitOut
 agreement minor max_readahead flags = record {
   major = 7;
@@ -23,7 +23,7 @@ agreement minor max_readahead flags = record {
   max_pages = 16 * bit_at flags 22;
 }
 
--- the highest version, and nothing else
+-- the highest version, and everything else zero
 abbrev pub highest : InitOut
 highest = record {
   major = 7;
@@ -37,7 +37,7 @@ highest = record {
   max_pages = 0;
 }
 
--- A higher major version is asked to offer again; versions before 7.23 are refused.
+-- A higher major version must be offered again; versions before 7.23 are refused.
 abbrev pub negotiated : (major minor max_readahead flags : ℕ) → Negotiated
 negotiated major minor max_readahead flags =
     if nat_lt 7 major then Again highest else

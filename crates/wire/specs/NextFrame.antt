@@ -1,4 +1,4 @@
--- What stands next on a stream.
+-- What the bytes of a stream begin with.
 use Rattle.std.specs.Prelude.{◌≡◌, ℕ, ◌≤◌, List, length}
 use Rattle.wire.specs.declared.standing.NextFrame.{NextFrame}
 use Rattle.wire.specs.declared.standing.NextFrame.TheVariants.{Partial, Bad, Whole}

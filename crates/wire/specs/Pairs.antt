@@ -1,9 +1,9 @@
--- The lookups that a BATCH_FORGET gives back.
+-- The lookups that a BATCH_FORGET forgets.
 use Rattle.std.specs.Prelude.{ℕ, zero, suc, ◌/◌, List, [], ◌∷◌, length, drop}
 use Rattle.byteorder.specs.Endian.{little_number}
 use Rattle.wire.specs.declared.pairs.ForgetOne.{ForgetOne}
 
--- so many pairs of numbers of eight bytes, one after another
+-- that many pairs of eight-byte numbers, one after another
 abbrev pub pairs_from : ℕ → List ℕ → List ForgetOne
 pairs_from zero body = []
 pairs_from (suc count) body = record { node = little_number 8 body; nlookup = little_number 8 (drop 8 body) } ∷ pairs_from count (drop 16 body)

@@ -1,4 +1,4 @@
--- Reading from left to right, with the first fault that is met.
+-- Reading from left to right, up to the first fault.
 use Rattle.std.specs.Prelude.{◌≡◌, ℕ, ◌+◌, ◌*◌, List, [], ◌∷◌, length, take, drop, Option, Some, None, Result, Ok, Err, Bool, true, ◌&&◌, ◌||◌, nat_lt, nat_le, ◌==◌, if◌then◌else◌, codes}
 use Rattle.std.specs.Str.{is_utf8, bytes_eq}
 use Rattle.std.specs.List.{position, list_any}
@@ -17,7 +17,7 @@ abbrev pub ◌>>=◌ : {A B : Type 0} → Result A WireFault → (A → Result B
 (Ok x) >>= f = f x
 (Err e) >>= f = Err e
 
--- what a function returned, seen by view, is what reading gives
+-- the result of a function, seen through view, is what reading gives
 abbrev pub Gives : {X Y : Type 0} → (X → Y) → Result X WireFault → Result Y WireFault → Type 0
 Gives view (Ok x) read = read ≡ Ok (view x)
 Gives view (Err e) read = read ≡ Err e
@@ -33,7 +33,7 @@ unread_at len body = if nat_lt (length body) len then Err Body else Ok (drop len
 abbrev pub raw_at : ℕ → List ℕ → Result (List ℕ × List ℕ) WireFault
 raw_at len body = if nat_lt (length body) len then Err Body else Ok (take len body, drop len body)
 
--- the text before a zero byte, by where that stands
+-- the text before the zero byte, given the position of that byte
 abbrev pub text_before : Option ℕ → List ℕ → Result (List ℕ × List ℕ) WireFault
 text_before None body = Err Body
 text_before (Some end) body = Ok (take end body, drop (end + 1) body)
@@ -49,7 +49,7 @@ counted_at unit gap limit body =
 abbrev pub limited_at : ℕ → List ℕ → Result (ℕ × List ℕ) WireFault
 limited_at limit body = number_at 4 body >>= λ x. (if nat_le x.0 limit then Ok x else Err Body)
 
--- nothing is left
+-- the body ends here
 abbrev pub ended : List ℕ → Result Bool WireFault
 ended body = if length body == 0 then Ok true else Err Body
 
@@ -85,7 +85,7 @@ named (name t ∷ values) = name_at t >>= λ _. named values
 named (num _ ∷ values) = named values
 named (bytes _ ∷ values) = named values
 
--- ---- an operation and a frame
+-- ---- operations and frames
 
 abbrev pub fields_at : List Field → List ℕ → Result (List Value) WireFault
 fields_at fields body = values_at fields body >>= λ values. named values >>= λ _. Ok values
@@ -97,7 +97,7 @@ operation_by (Some fields) opcode body = fields_at fields body >>= λ values. Ok
 unfoldable pub operation_at : ℕ → List ℕ → Result (ℕ × List Value) WireFault
 operation_at opcode body = operation_by (layout opcode) opcode body
 
--- an operation without where its bytes lie
+-- an operation, without the places of its bytes
 abbrev pub told : Operation → ℕ × List Value
 told operation = (opcode_of operation, values_of operation)
 

@@ -1,4 +1,4 @@
--- What bytes are a reply.
+-- Which bytes are a reply.
 use Rattle.std.specs.Prelude.{◌≡◌, ℕ, ◌+◌, ◌/◌, ◌%◌, ◌≤◌, List, [], ◌∷◌, ◌++◌, length, drop, ℤ, pos, neg_ℤ, ◌≤ℤ◌, ◌==◌, if◌then◌else◌}
 use Rattle.std.specs.Int.{cast_signed, w32}
 use Rattle.byteorder.specs.Endian.{little_number}
@@ -16,16 +16,16 @@ use Rattle.wire.specs.Fields.{Field, raw, u16, u32, u64, Value, num, bytes, Spel
 
 -- ---- attributes and entries
 
--- the type in a mode: a directory, or a regular file
+-- the file type bits of a mode: a directory, or a regular file
 abbrev pub type_bits : Kind → ℕ
 type_bits Folder = 0o40000
 type_bits File = 0o100000
 
--- the type, and the lowest twelve bits of the permissions
+-- the file type bits, and the lowest twelve bits of the permissions
 abbrev pub mode_of : Kind → ℕ → ℕ
 mode_of kind permissions = type_bits kind + permissions % 4096
 
--- how many blocks of 512 bytes hold so many bytes
+-- how many blocks of 512 bytes hold that many bytes
 abbrev pub blocks_of : ℕ → ℕ
 blocks_of size = size / 512 + (if size % 512 == 0 then 0 else 1)
 
@@ -57,7 +57,7 @@ attr_values a = num 1 ∷ num 0 ∷ num 0 ∷ attributes_values a
 
 -- ---- sizes of the file system
 
--- blocks, bfree, bavail, files, ffree; bsize, namelen, frsize, padding, and six that are spare
+-- blocks, bfree, bavail, files, ffree; bsize, namelen, frsize, padding, and six spare fields
 abbrev pub statfs_layout : List Field
 statfs_layout = u64 ∷ u64 ∷ u64 ∷ u64 ∷ u64 ∷ u32 ∷ u32 ∷ u32 ∷ u32 ∷ u32 ∷ u32 ∷ u32 ∷ u32 ∷ u32 ∷ u32 ∷ []
 
@@ -75,14 +75,14 @@ opened_layout = u64 ∷ u32 ∷ u32 ∷ []
 abbrev pub opened_values : ℕ → List Value
 opened_values fh = num fh ∷ num 0 ∷ num 0 ∷ []
 
--- an entry, and a handle
+-- an entry and a handle
 abbrev pub created_layout : List Field
 created_layout = entry_layout ++ opened_layout
 
 abbrev pub created_values : GivenEntry → ℕ → List Value
 created_values e fh = entry_values e ++ opened_values fh
 
--- ---- what was written: size, padding
+-- ---- how much was written: size, padding
 
 abbrev pub wrote_layout : List Field
 wrote_layout = u32 ∷ u32 ∷ []
@@ -90,10 +90,10 @@ wrote_layout = u32 ∷ u32 ∷ []
 abbrev pub wrote_values : ℕ → List Value
 wrote_values size = num size ∷ num 0 ∷ []
 
--- ---- what is spoken
+-- ---- the answer to INIT
 
--- major, minor, max_readahead, flags; max_background, congestion_threshold; max_write, time_gran; max_pages, and a number of two bytes and
--- eight of four bytes that are unused
+-- major, minor, max_readahead, flags; max_background, congestion_threshold; max_write, time_gran; max_pages, then one
+-- two-byte number and eight four-byte numbers that are unused
 abbrev pub init_layout : List Field
 init_layout = u32 ∷ u32 ∷ u32 ∷ u32 ∷ u16 ∷ u16 ∷ u32 ∷ u32 ∷ u16 ∷ u16 ∷ u32 ∷ u32 ∷ u32 ∷ u32 ∷ u32 ∷ u32 ∷ u32 ∷ u32 ∷ []
 
@@ -102,7 +102,7 @@ init_values i =
     num i.major ∷ num i.minor ∷ num i.max_readahead ∷ num i.flags ∷ num i.max_background ∷ num i.congestion_threshold
     ∷ num i.max_write ∷ num i.time_gran ∷ num i.max_pages ∷ num 0 ∷ num 0 ∷ num 0 ∷ num 0 ∷ num 0 ∷ num 0 ∷ num 0 ∷ num 0 ∷ num 0 ∷ []
 
--- ---- the header: the length, the error, and the number of the request
+-- ---- the header: the length, the error and the number of the request
 
 abbrev pub error_in : List ℕ → ℤ
 error_in frame = cast_signed w32 (little_number 4 (drop 4 frame))
@@ -114,7 +114,7 @@ abbrev pub error_of : ReplyBody → ℤ
 error_of (Failed errno) = neg_ℤ errno
 error_of _ = pos 0
 
--- ---- what follows the header
+-- ---- the body
 
 abbrev pub reply_layout : ReplyBody → List Field
 reply_layout (Failed _) = []
@@ -147,12 +147,12 @@ pub record IsErrno (errno : ℤ) : Type 0 where
   pub low : pos 1 ≤ℤ errno
   pub high : errno ≤ℤ pos 4095
 
--- a folder has no size
+-- a folder has size 0
 abbrev pub IsSized : Kind → ℕ → Type 0
 IsSized File size = Unit {0}
 IsSized Folder size = size ≡ 0
 
--- what a reply may say
+-- which values the body of a reply may have
 abbrev pub IsAnswer : ReplyBody → Type 0
 IsAnswer (Failed errno) = IsErrno errno
 IsAnswer Done = Unit {0}

@@ -1,4 +1,4 @@
--- What bytes are a request. What is not named here is not read.
+-- Which bytes are a request. What is not named here is not read.
 use Rattle.std.specs.Prelude.{◌≡◌, ◌≢◌, ℕ, ◌-◌, ◌^◌, ◌<◌, ◌≤◌, List, [], ◌∷◌, length, drop, Option, Some, None, ◌==◌, if◌then◌else◌, All, codes}
 use Rattle.std.specs.Str.{IsUtf8}
 use Rattle.std.specs.List.{AllByRecursion}
@@ -12,7 +12,7 @@ use Rattle.wire.specs.declared.request.Operation.{Operation}
 use Rattle.wire.specs.declared.request.Operation.TheVariants.{Lookup, Forget, GetAttr, SetAttr, MakeDir, Unlink, RemoveDir, Rename, Open, Read, Write, StatFs, Release, Sync, Flush, Init, OpenDir, ReadDir, ReleaseDir, SyncDir, Create, Interrupt, Destroy, BatchForget, ReadDirPlus, Rename2}
 use Rattle.wire.specs.Fields.{Field, unread, text, counted, limited, anything, u32, u64, Value, num, name, bytes, Spells}
 
--- ---- the header: the length, the opcode, unique, the node's number, and sixteen bytes that are not read
+-- ---- the header: the length, the opcode, unique, the node number, and sixteen bytes that are not read
 
 abbrev pub opcode_in : List ℕ → ℕ
 opcode_in frame = little_number 4 (drop 4 frame)
@@ -29,15 +29,16 @@ body_in frame = drop HEADER_LEN frame
 abbrev pub header_in : List ℕ → Header
 header_in frame = record { opcode = opcode_in frame; unique = unique_in frame; node = node_in frame }
 
--- a whole frame, as long as it says
+-- a whole frame, as long as its header says
 pub record IsFramed (frame : List ℕ) : Type 0 where
   pub long : HEADER_LEN ≤ length frame
   pub short : length frame ≤ MAX_FRAME_LEN
   pub len : little_number 4 frame ≡ length frame
 
--- ---- what follows the header, by the opcode: a further opcode is one more line in each table
+-- ---- the body, by the opcode: a further opcode is one more line in each table
 
--- behind the size of a SETATTR: lock_owner, atime, mtime, ctime; atimensec, mtimensec, ctimensec, mode, unused, uid, gid, unused
+-- after the size of a SETATTR: lock_owner, atime, mtime, ctime; atimensec, mtimensec, ctimensec, mode, unused, uid,
+-- gid, unused
 abbrev pub new_attributes_layout : List Field
 new_attributes_layout =
     unread 8 ∷ u64 ∷ u64 ∷ unread 8 ∷ u32 ∷ u32 ∷ unread 4 ∷ u32 ∷ unread 4 ∷ u32 ∷ u32 ∷ unread 4 ∷ []
@@ -106,7 +107,7 @@ opcode_of (BatchForget _) = BATCH_FORGET
 opcode_of (ReadDirPlus _ _ _) = READDIRPLUS
 opcode_of (Rename2 _ _ _ _) = RENAME2
 
--- what an operation has in the fields of its layout
+-- the values of an operation in the fields of its layout
 abbrev pub values_of : Operation → List Value
 values_of (Lookup n) = name n.now ∷ []
 values_of (Forget nlookup) = num nlookup ∷ []
@@ -151,7 +152,7 @@ pub record IsName (t : List ℕ) : Type 0 where
   pub not_above : t ≢ codes ".."
   pub no_slash : All (λ b. b ≢ 47) t
 
--- the names among values, in turn
+-- the names among the values, in order
 abbrev pub names_in : List Value → List (List ℕ)
 names_in [] = []
 names_in (name t ∷ values) = t ∷ names_in values
@@ -169,7 +170,7 @@ pub record IsRequest (frame : List ℕ) (r : Request) : Type 0 where
   pub body : IsLaidOut (layout (opcode_in frame)) (values_of r.operation) (body_in frame)
   pub names : AllByRecursion IsName (names_in (values_of r.operation))
 
--- the same request, wherever its names lie
+-- the same request, wherever its names are stored
 pub record IsSame (a b : Request) : Type 0 where
   pub unique : a.unique ≡ b.unique
   pub node : a.node ≡ b.node

@@ -1,4 +1,4 @@
--- The bytes of a row.
+-- The bytes of a row to be written.
 use Rattle.std.specs.Prelude.{ℕ, List, [], ◌∷◌, ◌++◌}
 use Rattle.std.specs.List.{flat_map}
 use Rattle.wire.specs.declared.writing.Part.{Part}

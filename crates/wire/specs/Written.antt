@@ -1,4 +1,4 @@
--- The bytes that are written of a request and of a reply.
+-- The bytes that are written for a request and for a reply.
 use Rattle.std.specs.Prelude.{ℕ, ◌+◌, ◌-◌, ◌/◌, ◌%◌, ◌^◌, List, [], ◌∷◌, ◌++◌, length, replicate, Option, Some, None, ℤ}
 use Rattle.std.specs.List.{flat_map}
 use Rattle.std.specs.Int.{cast_unsigned, w32}
@@ -18,7 +18,7 @@ use Rattle.wire.specs.Replies.{reply_layout, reply_values}
 unfoldable pub zeros : ℕ → List ℕ
 zeros n = replicate n 0
 
--- a number of so many bytes, the lowest first
+-- a number in that many bytes, little-endian
 unfoldable pub le : ℕ → ℕ → List ℕ
 le len n = little_bytes len n
 
@@ -33,7 +33,7 @@ u32s ns = flat_map (little_bytes 4) ns
 abbrev pub joined : List (List ℕ) → List ℕ
 joined words = flat_map (λ word. word) words
 
--- fields with these values; what is not read is zero
+-- fields with these values; what is not read is written as zero
 abbrev pub written : List Field → List Value → List ℕ
 written [] values = []
 written (number len ∷ fields) (num n ∷ values) = le len n ++ written fields values
@@ -54,7 +54,7 @@ written_by (Some fields) values = written fields values
 abbrev pub operation_bytes : Operation → List ℕ
 operation_bytes o = written_by (layout (opcode_of o)) (values_of o)
 
--- the length, the opcode, unique, the node, sixteen zero bytes (uid, gid, pid and padding), and the body
+-- the length, the opcode, unique, the node number, sixteen zero bytes (uid, gid, pid and padding), and the body
 unfoldable pub request_bytes : Request → List ℕ
 request_bytes r =
     le 4 (HEADER_LEN + length (operation_bytes r.operation)) ++ le 4 (opcode_of r.operation) ++ le 8 r.unique ++ le 8 r.node ++ zeros 16
@@ -65,7 +65,7 @@ request_bytes r =
 abbrev pub header_bytes : ReplyHeader → List ℕ
 header_bytes header = header.length ++ header.unique
 
--- two's complement of an error number, in four bytes
+-- two's complement of the negated error number, in four bytes
 abbrev pub negated : ℤ → ℕ
 negated errno = (2 ^ 32 - cast_unsigned w32 errno) % 2 ^ 32
 

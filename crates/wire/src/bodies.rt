@@ -1,4 +1,4 @@
-//! Replies as words of eight bytes, so that a header and what follows it are put at once.
+//! Replies as words of eight bytes, so that a header and the body after it are written at once.
 
 ghost use Rattle.std.specs.Prelude.{◌≡◌, ◌≤◌, ◌+◌, ◌^◌, ◌++◌, length, vec_len, vec_capacity};
 ghost use Rattle.wire.specs.Fields.{CanTell};
@@ -12,7 +12,7 @@ use crate::reply::{
 };
 use crate::request::{MAX_READ_LEN, Time};
 
-/// The header of a reply (`fuse_out_header`): the length and the error, and the number of the request.
+/// The header of a reply (`fuse_out_header`): the length with the error, and the number of the request.
 #[derive(Clone, Copy)]
 pub struct ReplyHeader {
     pub length: [u8; 8],
@@ -29,7 +29,7 @@ fn blocks(size: u64) -> u64
     }
 }
 
-/// The bits of the type, and the permissions.
+/// A mode: the file type bits and the permission bits.
 fn mode(kind: Kind, permissions: u32) -> u32
     ensures { result ≡ mode_of kind permissions }
 {
@@ -39,7 +39,7 @@ fn mode(kind: Kind, permissions: u32) -> u32
     }
 }
 
-/// The seconds of a time, and its nanoseconds.
+/// The seconds and the nanoseconds of a time.
 fn parts(time: &Time) -> (u64, u32)
     ensures seconds { result.0 ≡ time.now.seconds }
     ensures nanos { result.1 ≡ time.now.nanos }

@@ -11,15 +11,15 @@ use smallvec::SmallVec;
 use std::alloc::{AllocError, Global};
 use std::marker::Model;
 
-/// A whole frame. A short one takes no memory, as a LOOKUP of a name of up to 55 bytes.
+/// A whole frame. One of up to 96 bytes needs no allocation, for example a LOOKUP of a name of up to 55 bytes.
 pub type Frame = SmallVec<u8, 96>;
 
-/// Why no frame can be handed out, or no bytes taken.
+/// Why no frame could be returned, or no bytes taken.
 #[derive(Clone, Copy, Debug, PartialEq, Eq)]
 pub enum CutFault {
-    /// No frame has this length. No frame is handed out and no byte taken from then on.
+    /// No frame has this length. From then on no frame is returned and no byte is taken.
     BadLength { len: u32 },
-    /// Memory was refused. The cutter is as it was.
+    /// An allocation failed. The cutter is unchanged.
     Memory,
 }
 
@@ -31,11 +31,11 @@ impl From<AllocError> for CutFault {
     }
 }
 
-/// Takes the bytes of a stream in any pieces, and hands out its frames.
+/// Takes the bytes of a stream in pieces of any size, and returns its frames.
 #[derive(Drop)]
 pub struct Cutter {
     alloc: Global,
-    /// The bytes that are in no frame that was handed out.
+    /// The bytes that are not part of a frame returned so far.
     kept: Window,
     stopped: Option<u32>,
 }
@@ -63,14 +63,14 @@ impl Cutter {
         }
     }
 
-    /// How many bytes are in no frame that was handed out.
+    /// How many bytes are not part of a frame returned so far.
     pub fn rest(&self) -> usize
         ensures { result ≡ length self.now.kept }
     {
         self.kept.len()
     }
 
-    /// Takes the next piece. An `Err` changes nothing.
+    /// Takes the next piece. On error nothing changes.
     pub fn feed(&mut self, piece: &[u8]) -> Result<(), CutFault>
         ensures ok { OnOk result (self.new ≡ record self.old { kept = self.old.kept ++ piece.now }) }
         ensures err { OnErr result (self.new ≡ self.old) }
@@ -83,8 +83,9 @@ impl Cutter {
         Ok(())
     }
 
-    /// Takes so many bytes of a room as the next piece, which stand there from `from` on. The bytes that are kept are copied before them
-    /// where they are fewer and fit there, and another buffer is left in the place of the room, no shorter. An `Err` changes nothing.
+    /// Takes `count` bytes of `room`, starting at `from`, as the next piece. If the bytes kept so far are fewer and fit
+    /// before them, they are copied there and `room` gets another buffer, which is no shorter. On error nothing
+    /// changes.
     pub fn feed_from(
         &mut self,
         room: &mut Vec<u8>,
@@ -104,7 +105,7 @@ impl Cutter {
         Ok(())
     }
 
-    /// The next whole frame, if it is there. It stays.
+    /// The next whole frame, if there is one. It is not removed.
     pub fn peek(&self) -> Result<Option<&[u8]>, CutFault>
         ensures frame { IfOk result (λ o. IfSome o (λ f. StandsFirst self.now f.now)) }
         ensures none { IfOk result (λ o. IfNone o (IsPartial self.now.kept)) }
@@ -121,7 +122,7 @@ impl Cutter {
         }
     }
 
-    /// Lets go of the frame that stands first, which has that length.
+    /// Removes the first frame, which has length `len`.
     pub fn skip(&mut self, len: usize)
         requires within { len ≤ length self.old.kept }
         requires going { self.old.stopped ≡ None }
@@ -130,7 +131,7 @@ impl Cutter {
         self.kept.skip(len);
     }
 
-    /// The next whole frame, if it is there, as a frame of its own.
+    /// Removes the next whole frame, if there is one, and returns a copy of it.
     pub fn next(&mut self) -> Result<Option<Frame>, CutFault>
         ensures frame { IfOk result (λ o. IfSome o (λ f. HandsOut self.old f.items self.new)) }
         ensures none { IfOk result (λ o. IfNone o (IsPartial self.old.kept × (self.new ≡ self.old))) }
@@ -138,7 +139,7 @@ impl Cutter {
         ensures for_good { (len : ℕ) → result ≡ Err (CutFault.BadLength len) → self.new ≡ record self.old { stopped = Some len } }
         ensures memory { result ≡ Err CutFault.Memory → self.new ≡ self.old }
 
-        // Memory is asked for only where a whole frame stands next.
+        // Memory is allocated only if there is a whole frame.
         ensures asked { result ≡ Err CutFault.Memory → (len : ℕ) × IsWhole self.old.kept len }
     {
         if let Some(len) = self.stopped {
@@ -159,7 +160,7 @@ impl Cutter {
     }
 }
 
-/// A stream is one list of frames and one rest, so how it was cut into pieces makes no difference.
+/// A stream splits into frames and a rest in one way only, so it makes no difference in which pieces it came.
 pub fn one_split()
     ensures { (frames others : List (List ℕ)) (rest end stream : List ℕ) →
         Splits stream frames rest → Splits stream others end → (frames ≡ others) × (rest ≡ end) }

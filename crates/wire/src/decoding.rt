@@ -1,4 +1,4 @@
-//! Frames read as requests.
+//! Reading frames as requests.
 
 ghost use Rattle.std.specs.Prelude.{IfOk, IfErr, IsOkAnd};
 ghost use Rattle.wire.specs.declared.request.Request.{Request};
@@ -11,7 +11,7 @@ use crate::header::{Header, header_of, u32_in};
 use crate::operations::operation_of;
 use crate::request::{HEADER_LEN, MAX_FRAME_LEN, Request};
 
-/// The header of a whole frame, and what follows it.
+/// The header of a whole frame, and the bytes after it.
 fn parts_of(frame: &[u8]) -> Result<(Header, &[u8]), WireFault>
     ensures { Gives (λ x. (x.0, x.1.now)) result (parts_at frame.now) }
 {
@@ -37,13 +37,13 @@ fn request_of(frame: &[u8]) -> Result<Request<'_>, WireFault>
     })
 }
 
-/// The request that a whole frame is. It takes no memory.
+/// The request that a whole frame contains. It does not allocate.
 pub fn decode(frame: &[u8]) -> Result<Request<'_>, WireFault>
-    // What is read is what the frame is.
+    // What is returned is the request that the frame is.
     ensures found { IfOk result (IsRequest frame.now) }
-    // What the frame is, is read.
+    // If the frame is a request, that request is returned.
     ensures only { (q : Request) → IsRequest frame.now q → IsOkAnd result (λ r. IsSame r q) }
-    // A fault is the first test that fails.
+    // A fault is that of the first test that fails.
     ensures fault { IfErr result (IsFirstFault frame.now) }
 {
     request_of(frame)

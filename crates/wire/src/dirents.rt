@@ -1,4 +1,4 @@
-//! Names of a folder, as READDIR and READDIRPLUS tell them, put at the end of a vector one by one.
+//! Directory entries, as READDIR and READDIRPLUS return them, appended to a vector one by one.
 
 ghost use Rattle.std.specs.Prelude.{◌≡◌, ◌<◌, ◌≤◌, ◌+◌, ◌^◌, ◌++◌, length, vec_len, vec_capacity, OnOk, OnErr, Option};
 ghost use Rattle.wire.specs.Dirents.{Dirent, PlusDirent, IsDirent, IsPlusDirent, dirent_bytes, given_values, ino_of, padding, padding_of, plus_bytes, type_of};
@@ -11,10 +11,10 @@ use crate::put::{len_and, put, put_words, word};
 use crate::reply::{ENTRY_LEN, Entry, Kind};
 use std::alloc::AllocError;
 
-/// How many bytes stand before the name of an entry (`fuse_dirent`).
+/// How many bytes come before the name in a directory entry (`fuse_dirent`).
 pub const DIRENT_LEN: usize = 24;
 
-/// The inode number of an entry whose node is not told (`FUSE_UNKNOWN_INO` of libfuse).
+/// The inode number of an entry that was not looked up (`FUSE_UNKNOWN_INO` of libfuse).
 pub const NO_INO: u64 = 4294967295;
 
 fn type_of(kind: Kind) -> u32
@@ -26,7 +26,7 @@ fn type_of(kind: Kind) -> u32
     }
 }
 
-/// How many zeros follow so many bytes.
+/// How many zeros pad that many bytes to a multiple of eight.
 fn padding(len: usize) -> u8
     ensures is { result ≡ padding len }
     ensures few { result < 8 }
@@ -34,7 +34,7 @@ fn padding(len: usize) -> u8
     ((8 - len % 8) % 8) as u8
 }
 
-/// How many bytes an entry of this name has.
+/// How many bytes the directory entry of this name has.
 fn dirent_len(name: &str) -> usize
     ensures is { result ≡ DIRENT_LEN + length name.now + padding_of name.now }
     ensures short { result ≤ 2 ^ 63 + 32 }
@@ -43,7 +43,7 @@ fn dirent_len(name: &str) -> usize
     len + padding(len) as usize
 }
 
-/// A name, and so many zeros.
+/// Appends a name and its padding of zeros.
 #[tactic(auto, unfolding(crate::specs::Written::zeros))]
 fn put_padded(out: &mut Vec<u8>, name: &str, padding: u8)
     requires few { padding < 8 }
@@ -65,8 +65,8 @@ fn put_dirent(out: &mut Vec<u8>, ino: u64, next: u64, kind: Kind, name: &str)
     put_padded(out, name, padding(DIRENT_LEN + len));
 }
 
-/// Puts an entry of READDIR at the end of a vector: its inode number, where the next one stands, what it is, and its name. Where
-/// memory is refused, the items stay as they were.
+/// Appends a READDIR entry: its inode number, the offset of the next entry, its type and its name. If memory is
+/// refused, the items do not change.
 pub fn encode_dirent(
     out: &mut Vec<u8>,
     ino: u64,
@@ -75,7 +75,7 @@ pub fn encode_dirent(
     name: &str,
 ) -> Result<(), AllocError>
     ensures ok { OnOk result (out.new.items ≡ out.old.items ++ dirent_bytes (record { ino = ino; next = next; kind = kind; name = name.now })) }
-    // What is put is that entry, if its name is no longer than a number of four bytes can say.
+    // What is appended is that entry, if four bytes can hold the length of its name.
     ensures dirent { let d : Dirent = record { ino = ino; next = next; kind = kind; name = name.now } in length name.now < 2 ^ 32 → IsDirent d (dirent_bytes d) }
     ensures err { OnErr result (out.new.items ≡ out.old.items) }
 {
@@ -84,7 +84,7 @@ pub fn encode_dirent(
     Ok(())
 }
 
-/// The inode number of an entry with which a node is given, if any.
+/// The inode number of the entry's node, or `NO_INO` if it was not looked up.
 fn ino_of(entry: &Option<Entry>) -> u64
     ensures { result ≡ ino_of entry.now }
 {
@@ -94,7 +94,7 @@ fn ino_of(entry: &Option<Entry>) -> u64
     }
 }
 
-/// The node that is given with an entry, or zeros.
+/// The words of the entry's node, or zeros if it was not looked up.
 #[tactic(auto, using(crate::proofs::Listed::dirents))]
 fn given_words(entry: &Option<Entry>) -> [[u8; 8]; 16]
     ensures words { joined result ≡ written entry_layout (given_values entry.now) }
@@ -107,7 +107,7 @@ fn given_words(entry: &Option<Entry>) -> [[u8; 8]; 16]
     }
 }
 
-/// What stands before the name of an entry with the node that is given with it, and the name.
+/// Appends the node of a READDIRPLUS entry and then the directory entry with its name.
 #[tactic(auto, using(crate::proofs::Listed::dirents))]
 fn put_plus_dirent(out: &mut Vec<u8>, entry: &Option<Entry>, next: u64, kind: Kind, name: &str)
     requires { vec_len out.old + (ENTRY_LEN + (DIRENT_LEN + length name.now + padding_of name.now)) ≤ vec_capacity out.old }
@@ -126,8 +126,8 @@ fn put_plus_dirent(out: &mut Vec<u8>, entry: &Option<Entry>, next: u64, kind: Ki
     put_padded(out, name, padding(DIRENT_LEN + len));
 }
 
-/// The same for READDIRPLUS: the node that is given with the entry stands before it. Without one its bytes are zero, and the inode
-/// number is not told.
+/// The same for READDIRPLUS: the entry's node comes first. If it was not looked up, its bytes are zero and the inode
+/// number is `NO_INO`.
 #[tactic(auto, using(crate::proofs::Listed::dirents))]
 pub fn encode_plus_dirent(
     out: &mut Vec<u8>,
@@ -137,7 +137,7 @@ pub fn encode_plus_dirent(
     name: &str,
 ) -> Result<(), AllocError>
     ensures ok { OnOk result (out.new.items ≡ out.old.items ++ plus_bytes (record { entry = entry; next = next; kind = kind; name = name.now })) }
-    // What is put is that entry, if its name is no longer than a number of four bytes can say.
+    // What is appended is that entry, if four bytes can hold the length of its name.
     ensures dirent { OnOk result (let p : PlusDirent = record { entry = entry; next = next; kind = kind; name = name.now } in length name.now < 2 ^ 32 → IsPlusDirent p (plus_bytes p)) }
     ensures err { OnErr result (out.new.items ≡ out.old.items) }
 {

@@ -1,4 +1,4 @@
-//! Requests and replies written as frames. The length of a frame is known first, so a vector grows once at most, and the
+//! Writing requests and replies as frames. The length of a frame is known first, so a vector grows at most once and the
 //! writing that follows cannot fail.
 
 ghost use Rattle.std.specs.Prelude.{◌≡◌, ℕ, List, ◌≤◌, ◌+◌, ◌^◌, ◌++◌, ◌<◌, length, vec_len, vec_capacity, OnOk, OnErr, pos};
@@ -32,11 +32,11 @@ fn put_request(out: &mut Vec<u8>, request: &Request<'_>, row: &Row<'_>, len: usi
     put_parts(out, &row.parts);
 }
 
-/// Puts a request at the end of a vector, for clients. What the server does not read of it is zero, as uid, gid and pid.
-/// Where memory is refused, the items stay as they were.
+/// Appends a request to a vector, for clients. Fields that the server does not read, such as uid, gid and pid, are
+/// zero. If memory is refused, the items do not change.
 pub fn encode_request(request: &Request<'_>, out: &mut Vec<u8>) -> Result<(), AllocError>
     ensures ok { OnOk result (out.new.items ≡ out.old.items ++ request_bytes request.now) }
-    // If any frame is the request, what is put is one.
+    // If any frame is this request, then what is appended is one.
     ensures again { (frame : List ℕ) → IsBytes frame → IsRequest frame request.now → IsRequest (request_bytes request.now) request.now }
     ensures err { OnErr result (out.new.items ≡ out.old.items) }
 {
@@ -49,7 +49,7 @@ pub fn encode_request(request: &Request<'_>, out: &mut Vec<u8>) -> Result<(), Al
     Ok(())
 }
 
-/// An error number as it stands in a header: two's complement of its negation.
+/// An error number as the header has it: the two's complement of its negation.
 fn negated(errno: i32) -> u32
     ensures { result ≡ negated_of errno }
 {
@@ -81,10 +81,10 @@ fn put_reply(out: &mut Vec<u8>, reply: &Reply, len: usize)
     put_body(out, header, &reply.body);
 }
 
-/// Puts a reply at the end of a vector. Where memory is refused, the items stay as they were.
+/// Appends a reply to a vector. If memory is refused, the items do not change.
 pub fn encode_reply(reply: &Reply, out: &mut Vec<u8>) -> Result<(), AllocError>
     ensures ok { OnOk result (out.new.items ≡ out.old.items ++ reply_bytes reply.now) }
-    // What is put is that reply, if it says what a reply may say.
+    // What is appended is that reply, if its body is one that a reply may have.
     ensures reply { OnOk result (IsAnswer reply.now.body → IsReply (reply_bytes reply.now) reply.now) }
     // No other bytes are that reply.
     ensures only { (frame : List ℕ) → IsBytes frame → IsReply frame reply.now → frame ≡ reply_bytes reply.now }
@@ -96,7 +96,7 @@ pub fn encode_reply(reply: &Reply, out: &mut Vec<u8>) -> Result<(), AllocError>
     Ok(())
 }
 
-/// The header of a reply that carries so many bytes with it.
+/// The header of a reply with a body of `len` bytes in all.
 #[tactic(auto, unfolding(crate::specs::Written::le))]
 fn data_header(len: usize, unique: u64) -> [u8; 16]
     ensures { result ≡ le 4 len ++ (le 4 0 ++ le 8 unique) }
@@ -106,8 +106,8 @@ fn data_header(len: usize, unique: u64) -> [u8; 16]
     [a, b, c, d, 0, 0, 0, 0, e, f, g, h, i, j, k, l]
 }
 
-/// Writes a reply into the vector, in the place of what stood there. The bytes that it carries are not copied where there is just room
-/// for a header before them.
+/// Writes a reply into the vector and replaces what was there. The data that it carries is not copied if the room
+/// before it is exactly as long as a header.
 #[tactic(auto, using(crate::proofs::Lengths::lengths), unfolding(crate::specs::Written::le, crate::specs::Written::body_bytes, crate::specs::Written::reply_bytes))]
 pub fn write_reply(reply: Reply, out: &mut Vec<u8>) -> Result<(), AllocError>
     ensures { OnOk result (out.new.items ≡ reply_bytes reply) }
@@ -130,8 +130,8 @@ pub fn write_reply(reply: Reply, out: &mut Vec<u8>) -> Result<(), AllocError>
     encode_reply(&Reply { unique, body }, out)
 }
 
-/// The reply that only names an error, or for 0 that the request is done. It takes no memory. Of an `errno` that is no
-/// error number it has two's complement of the negation.
+/// A reply that has only an error number, or 0 for success without a body. It does not allocate. For an `errno` that is
+/// not an error number it contains the two's complement of the negation.
 #[tactic(auto, unfolding(crate::specs::Written::le, crate::specs::Written::body_bytes, crate::specs::Written::reply_bytes))]
 pub fn error_frame(unique: u64, errno: i32) -> [u8; 16]
     ensures bytes { result ≡ reply_bytes (record { unique = unique; body = Failed errno }) }

@@ -1,4 +1,4 @@
-//! Fields at the front of a body, and names.
+//! Reading fields from the front of a body, and names.
 
 ghost use Rattle.std.specs.Prelude.{◌≡◌, ◌==◌, ◌<◌, ◌≤◌, IfSome, length, true};
 ghost use Rattle.std.specs.List.{position};
@@ -34,7 +34,7 @@ pub fn unread_front(body: &[u8], len: usize) -> Result<&[u8], WireFault>
     Ok(&body[len..])
 }
 
-/// A number of four bytes that is at most `limit`.
+/// A four-byte number that is at most `limit`.
 pub fn limited_front(body: &[u8], limit: u32) -> Result<(u32, &[u8]), WireFault>
     ensures { Gives (λ x. (x.0, x.1.now)) result (limited_at limit body.now) }
 {
@@ -45,7 +45,7 @@ pub fn limited_front(body: &[u8], limit: u32) -> Result<(u32, &[u8]), WireFault>
     Ok((number, rest))
 }
 
-/// After a number of four bytes and so many that are not read, `unit` times as many bytes as the number says.
+/// Reads a four-byte number and skips `gap` bytes: what is left must be `unit` times as many bytes as the number says.
 pub fn counted_front(body: &[u8], unit: usize, gap: usize, limit: u32) -> Result<&[u8], WireFault>
     requires unit { unit ≤ 16 }
     requires gap { gap ≤ 20 }

@@ -6,39 +6,39 @@ ghost use Rattle.wire.specs.Negotiation.{agreed_flags, agreement, highest, negot
 
 use crate::reply::InitOut;
 
-/// The major version that is spoken.
+/// The major version that the server speaks.
 const MAJOR: u32 = 7;
 
-/// The highest minor version that is spoken.
+/// The highest minor version that the server speaks.
 const MINOR: u32 = 31;
 
-/// The lowest minor version that is spoken (own).
+/// The lowest minor version that the server accepts (own).
 const LEAST_MINOR: u32 = 23;
 
-/// How many bytes a client may read ahead at most, and one WRITE may have (own).
+/// The limit on the bytes that a client may read ahead, and on those of one WRITE (own).
 const MOST_BYTES: u32 = 65536;
 
-/// The bit that offers to be told a number of pages (`FUSE_MAX_PAGES` of `fuse.h`).
+/// The bit by which a client offers to be given a page limit (`FUSE_MAX_PAGES` of `fuse.h`).
 const PAGES: u32 = 1 << 22;
 
-/// The bits that are taken where they are offered (own).
+/// The bits that are accepted if they are offered (own).
 const FLAGS: u32 = 1 | 1 << 5 | 1 << 13 | 1 << 18 | PAGES;
 
 /// How many pages one request may have (own).
 const MAX_PAGES: u16 = 16;
 
-/// What an INIT is answered.
+/// The answer to an INIT.
 #[derive(Clone, Copy, Debug, PartialEq, Eq)]
 pub enum Negotiated {
-    /// This is agreed on.
+    /// The client and the server agree on this.
     Use(InitOut),
-    /// A higher major version was offered. The client is told this, and offers again.
+    /// A higher major version was offered. The client is sent this and makes another offer.
     Again(InitOut),
-    /// The version is too old. The client may offer another.
+    /// The version is too old. The client may offer another one.
     Refuse,
 }
 
-/// The bits that are taken of those that are offered.
+/// Those of the offered bits that are accepted.
 fn agreed_flags(flags: u32) -> u32
     ensures { result ≡ agreed_flags flags }
 {
@@ -83,7 +83,7 @@ fn highest() -> InitOut
     }
 }
 
-/// What an INIT is answered that offers this. It takes no memory.
+/// The answer to an INIT with this offer. It does not allocate.
 pub fn negotiate(major: u32, minor: u32, max_readahead: u32, flags: u32) -> Negotiated
     ensures { result ≡ negotiated major minor max_readahead flags }
 {

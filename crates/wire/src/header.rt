@@ -7,7 +7,7 @@ ghost use Rattle.wire.specs.Requests.{header_in};
 use crate::request::HEADER_LEN;
 use byteorder::{ByteOrder, LittleEndian};
 
-/// What the header of a request tells, beside the length of the frame.
+/// What the header of a request says, apart from the length of the frame.
 #[derive(Clone, Copy, Debug, PartialEq, Eq)]
 pub struct Header {
     pub opcode: u32,
@@ -31,7 +31,8 @@ fn u64_in(frame: &[u8], at: usize) -> u64
     LittleEndian::read_u64(&frame[at..])
 }
 
-/// The header of a frame that has one, whether or not the frame is faulty: whom to answer, and whether to.
+/// The header of a frame that is long enough to have one, even if the frame is faulty: it says whom to answer, and
+/// whether to.
 pub fn header_of(frame: &[u8]) -> Option<Header>
     ensures none { IsNone result ↔ (length frame.now < HEADER_LEN) }
     ensures some { IfSome result (λ header. header ≡ header_in frame.now) }

@@ -5,7 +5,7 @@ ghost use Rattle.std.specs.Prelude.{◌≢◌, ◌↔◌, IsTrue};
 /// `FUSE_LOOKUP` of `fuse.h`: looks a name up in a folder.
 pub const LOOKUP: u32 = 1;
 
-/// `FUSE_FORGET` of `fuse.h`: gives back lookups of a node.
+/// `FUSE_FORGET` of `fuse.h`: forgets lookups of a node.
 pub const FORGET: u32 = 2;
 
 /// `FUSE_GETATTR` of `fuse.h`: asks for the attributes of a node.
@@ -41,7 +41,7 @@ pub const STATFS: u32 = 17;
 /// `FUSE_RELEASE` of `fuse.h`: closes a file.
 pub const RELEASE: u32 = 18;
 
-/// `FUSE_FSYNC` of `fuse.h`: brings an open file to the disk.
+/// `FUSE_FSYNC` of `fuse.h`: writes an open file to the disk.
 pub const FSYNC: u32 = 20;
 
 /// `FUSE_FLUSH` of `fuse.h`: says that a descriptor of an open file was closed.
@@ -59,28 +59,28 @@ pub const READDIR: u32 = 28;
 /// `FUSE_RELEASEDIR` of `fuse.h`: closes a folder.
 pub const RELEASEDIR: u32 = 29;
 
-/// `FUSE_FSYNCDIR` of `fuse.h`: brings an open folder to the disk.
+/// `FUSE_FSYNCDIR` of `fuse.h`: writes an open folder to the disk.
 pub const FSYNCDIR: u32 = 30;
 
 /// `FUSE_CREATE` of `fuse.h`: makes a file and opens it.
 pub const CREATE: u32 = 35;
 
-/// `FUSE_INTERRUPT` of `fuse.h`: asks to give up a request that is under way.
+/// `FUSE_INTERRUPT` of `fuse.h`: asks to give up a request in progress.
 pub const INTERRUPT: u32 = 36;
 
 /// `FUSE_DESTROY` of `fuse.h`: ends the session.
 pub const DESTROY: u32 = 38;
 
-/// `FUSE_BATCH_FORGET` of `fuse.h`: gives back lookups of several nodes.
+/// `FUSE_BATCH_FORGET` of `fuse.h`: forgets lookups of several nodes.
 pub const BATCH_FORGET: u32 = 42;
 
-/// `FUSE_READDIRPLUS` of `fuse.h`: asks for names of an open folder, each looked up.
+/// `FUSE_READDIRPLUS` of `fuse.h`: asks for names of an open folder, and looks each up.
 pub const READDIRPLUS: u32 = 44;
 
-/// `FUSE_RENAME2` of `fuse.h`: gives a node another name, by flags.
+/// `FUSE_RENAME2` of `fuse.h`: gives a node another name, with flags.
 pub const RENAME2: u32 = 45;
 
-/// Whether a frame of this opcode is answered. One that is not gets no reply even if it is faulty.
+/// Whether a frame with this opcode is answered. A frame of the other opcodes gets no reply even if it is faulty.
 pub fn has_reply(opcode: u32) -> bool
     ensures { IsTrue result ↔ ((opcode ≢ FORGET) × (opcode ≢ INTERRUPT) × (opcode ≢ BATCH_FORGET)) }
 {

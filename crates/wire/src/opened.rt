@@ -1,4 +1,4 @@
-//! What follows the header of a request about an open file or folder.
+//! Reading the body of a request about an open file or folder.
 
 ghost use Rattle.std.specs.Prelude.{◌∷◌, []};
 ghost use Rattle.wire.specs.Fields.{limited, u64, unread, num};
@@ -51,7 +51,7 @@ pub fn open_dir(body: &[u8]) -> Result<Operation<'_>, WireFault>
     Ok(Operation::OpenDir)
 }
 
-/// A handle, an offset and a size.
+/// A handle, an offset and a size, and nothing else that is read.
 fn page_alone(body: &[u8]) -> Result<(u64, u64, u32), WireFault>
     ensures { Gives (λ x. num x.0 ∷ num x.1 ∷ num x.2 ∷ []) result (fields_at (u64 ∷ u64 ∷ limited MAX_READ_LEN ∷ unread 20 ∷ []) body.now) }
 {
@@ -97,7 +97,7 @@ pub fn write(body: &[u8]) -> Result<Operation<'_>, WireFault>
     Ok(Operation::Write { fh, offset, data })
 }
 
-/// A handle, and sixteen bytes that are not read.
+/// A handle and sixteen bytes that are not read.
 fn handle_alone(body: &[u8]) -> Result<u64, WireFault>
     ensures { Gives (λ x. num x ∷ []) result (fields_at (u64 ∷ unread 16 ∷ []) body.now) }
 {
@@ -131,7 +131,7 @@ pub fn release_dir(body: &[u8]) -> Result<Operation<'_>, WireFault>
     Ok(Operation::ReleaseDir { fh })
 }
 
-/// A handle, and eight bytes that are not read.
+/// A handle and eight bytes that are not read.
 fn synced_alone(body: &[u8]) -> Result<u64, WireFault>
     ensures { Gives (λ x. num x ∷ []) result (fields_at (u64 ∷ unread 8 ∷ []) body.now) }
 {

@@ -1,4 +1,4 @@
-//! What follows the header of a request, read by its opcode.
+//! Reading the body of a request by its opcode.
 
 ghost use Rattle.std.specs.Prelude.{◌∷◌, []};
 ghost use Rattle.wire.specs.Fields.{text, name};
@@ -46,7 +46,8 @@ fn get_attr(body: &[u8]) -> Result<Operation<'_>, WireFault>
     Ok(Operation::GetAttr)
 }
 
-/// What a SETATTR may set besides the size, and nothing after it. The owner of locks and the time of the last change are not read.
+/// What a SETATTR may set besides the size, up to the end of the body. The lock owner and the time of the last change
+/// are not read.
 fn new_attributes(body: &[u8]) -> Result<NewAttributes, WireFault>
     ensures { Gives new_attributes_values result (fields_at new_attributes_layout body.now) }
 {
@@ -105,7 +106,7 @@ fn make_dir(body: &[u8]) -> Result<Operation<'_>, WireFault>
     Ok(Operation::MakeDir { name, mode, umask })
 }
 
-/// Two names, and nothing after them.
+/// Two names, up to the end of the body.
 fn two_names(body: &[u8]) -> Result<(&str, &str), WireFault>
     ensures { Gives (λ x. name x.0.now ∷ name x.1.now ∷ []) result (fields_at (text ∷ text ∷ []) body.now) }
 {

@@ -1,4 +1,4 @@
-//! Bytes put at the end of a vector that has room for them.
+//! Appending bytes to a vector that has room for them.
 
 ghost use Rattle.std.specs.Prelude.{◌≡◌, ◌≤◌, ◌+◌, ◌*◌, ◌++◌, ◌∷◌, [], length, vec_len, vec_capacity};
 ghost use Rattle.wire.specs.Written.{le, zeros, joined, u16s, u32s};
@@ -54,7 +54,7 @@ pub fn put_u64(out: &mut Vec<u8>, n: u64)
     put(out, &n.to_le_bytes());
 }
 
-/// A number of eight bytes as a word.
+/// A number as a word of eight bytes.
 #[tactic(auto, unfolding(crate::specs::Written::le))]
 pub fn word(n: u64) -> [u8; 8]
     ensures { result ≡ le 8 n }
@@ -62,7 +62,7 @@ pub fn word(n: u64) -> [u8; 8]
     n.to_le_bytes()
 }
 
-/// Two numbers of four bytes as one word of eight.
+/// Two four-byte numbers as one word of eight bytes.
 #[tactic(auto, unfolding(crate::specs::Written::le))]
 pub fn pair(first: u32, second: u32) -> [u8; 8]
     ensures { result ≡ le 4 first ++ le 4 second }
@@ -72,7 +72,7 @@ pub fn pair(first: u32, second: u32) -> [u8; 8]
     [a, b, c, d, e, f, g, h]
 }
 
-/// The lowest four bytes of a length and a number of four bytes as one word of eight.
+/// The lowest four bytes of a length, and a four-byte number, as one word of eight bytes.
 #[tactic(auto, unfolding(crate::specs::Written::le))]
 pub fn len_and(len: usize, number: u32) -> [u8; 8]
     ensures { result ≡ le 4 len ++ le 4 number }
@@ -82,7 +82,7 @@ pub fn len_and(len: usize, number: u32) -> [u8; 8]
     [a, b, c, d, e, f, g, h]
 }
 
-/// Words of eight bytes, all at once.
+/// Words of eight bytes, appended at once.
 pub fn put_words(out: &mut Vec<u8>, words: &[[u8; 8]])
     requires { vec_len out.old + 8 * length words.now ≤ vec_capacity out.old }
     ensures items { out.new.items ≡ out.old.items ++ joined words.now }

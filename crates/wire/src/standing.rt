@@ -1,4 +1,4 @@
-//! What stands next on a stream.
+//! What the bytes of a stream begin with.
 
 ghost use Rattle.wire.specs.NextFrame.{Stands};
 
@@ -8,9 +8,9 @@ use byteorder::{ByteOrder, LittleEndian};
 pub enum NextFrame {
     /// Neither a whole frame nor a bad length.
     Partial,
-    /// A length that no frame has.
+    /// A length that no frame may have.
     Bad(u32),
-    /// A frame of that length.
+    /// A whole frame of that length.
     Whole(usize),
 }
 

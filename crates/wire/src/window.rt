@@ -1,4 +1,4 @@
-//! Bytes that are taken in at one end and let go at the other.
+//! Bytes that are appended at one end and removed at the other.
 
 ghost use Rattle.std.specs.Prelude.{◌≡◌, ◌+◌, ◌-◌, ◌≤◌, ◌++◌, [], length, take, drop, vec_len, OnOk, OnErr};
 
@@ -6,8 +6,8 @@ use std::alloc::{AllocError, Global};
 use std::marker::Model;
 use std::mem::swap;
 
-/// The bytes of a buffer from `start` up to `end`. What stands before and behind them is room: the buffer never gets shorter, so that
-/// letting bytes go costs nothing.
+/// The bytes of a buffer from `start` up to `end`. The buffer has room before and after them and never gets shorter, so
+/// removing bytes costs nothing.
 #[derive(Drop)]
 pub struct Window {
     buffer: Vec<u8>,
@@ -25,7 +25,8 @@ impl Model for Window {
     ghost invariant = { λ w. (w.start ≤ w.end) × (w.end ≤ length w.buffer.items) };
 }
 
-/// Moves the bytes from `start` up to `end` to the front, all at once, since the two places do not overlap.
+/// Moves the bytes from `start` up to `end` to the front with one copy, which is possible because the two ranges do not
+/// overlap.
 fn move_to_front(buffer: &mut [u8], start: usize, end: usize)
     requires order { start ≤ end }
     requires within { end ≤ length buffer.old }
@@ -37,7 +38,7 @@ fn move_to_front(buffer: &mut [u8], start: usize, end: usize)
     front[..end - start].copy_from_slice(&back[..end - start]);
 }
 
-/// Writes the piece behind the first `end` bytes, and makes room for it. Without memory nothing changes.
+/// Writes the piece after the first `end` bytes, and makes room for it. If memory is refused, nothing changes.
 fn write_behind(buffer: &mut Vec<u8>, end: usize, piece: &[u8]) -> Result<(), AllocError>
     requires within { end ≤ length buffer.old.items }
     ensures written { OnOk result (take (end + length piece.now) buffer.new.items ≡ take end buffer.old.items ++ piece.now) }
@@ -54,7 +55,7 @@ fn write_behind(buffer: &mut Vec<u8>, end: usize, piece: &[u8]) -> Result<(), Al
     Ok(())
 }
 
-/// Writes bytes before those that stand in a room from `from` on.
+/// Writes the bytes into a buffer so that they end where `from` is.
 fn write_before(room: &mut [u8], from: usize, bytes: &[u8])
     requires before { length bytes.now ≤ from }
     requires within { from ≤ length room.old }
@@ -64,7 +65,8 @@ fn write_before(room: &mut [u8], from: usize, bytes: &[u8])
     room[from - bytes.len()..from].copy_from_slice(bytes);
 }
 
-/// Makes a buffer at least so long. Its first `end` bytes stay, and without memory nothing changes.
+/// Makes the buffer at least `len` bytes long. Its first `end` bytes do not change, and if memory is refused, nothing
+/// changes.
 fn lengthen(buffer: &mut Vec<u8>, end: usize, len: usize) -> Result<(), AllocError>
     requires within { end ≤ length buffer.old.items }
     ensures front { take end buffer.new.items ≡ take end buffer.old.items }
@@ -78,7 +80,8 @@ fn lengthen(buffer: &mut Vec<u8>, end: usize, len: usize) -> Result<(), AllocErr
     Ok(())
 }
 
-/// Writes the bytes of a buffer from `start` up to `end` before those that stand in a room from `from` on, and exchanges the two.
+/// Copies the bytes of a buffer from `start` up to `end` into another one, where they end at `from`, and exchanges the
+/// two.
 fn exchange(buffer: &mut Vec<u8>, start: usize, end: usize, room: &mut Vec<u8>, from: usize)
     requires order { start ≤ end }
     requires within { end ≤ length buffer.old.items }
@@ -93,7 +96,7 @@ fn exchange(buffer: &mut Vec<u8>, start: usize, end: usize, room: &mut Vec<u8>, 
 }
 
 impl Window {
-    /// No bytes. It takes no memory.
+    /// An empty window. It does not allocate.
     pub fn new(alloc: Global) -> Window
         ensures { result ≡ [] }
     {
@@ -116,8 +119,8 @@ impl Window {
         self.end - self.start
     }
 
-    /// Moves the bytes to the front where at least as many were let go, so over the life of a window at most one byte is moved for
-    /// each byte that it takes.
+    /// Moves the bytes to the front if at least as many bytes were removed before them. So over the life of a window at
+    /// most one byte is moved for each byte that is appended.
     fn move_up(&mut self)
         ensures { self.new ≡ self.old }
     {
@@ -130,7 +133,7 @@ impl Window {
         self.end = left;
     }
 
-    /// Takes the piece in. Without memory the bytes stay.
+    /// Appends the piece. If memory is refused, the bytes do not change.
     pub fn push(&mut self, piece: &[u8]) -> Result<(), AllocError>
         ensures ok { OnOk result (self.new ≡ self.old ++ piece.now) }
         ensures err { OnErr result (self.new ≡ self.old) }
@@ -141,8 +144,8 @@ impl Window {
         Ok(())
     }
 
-    /// Takes in so many bytes of a room, which stand there from `from` on. Where fewer are kept, those are copied before these, if they
-    /// fit there, and the buffer and the room are exchanged. The room gets no shorter. Without memory nothing changes.
+    /// Appends `count` bytes of `room`, starting at `from`. If fewer bytes are kept and fit before these, they are
+    /// copied there and the two buffers are exchanged. The room gets no shorter. If memory is refused, nothing changes.
     pub fn take_from(
         &mut self,
         room: &mut Vec<u8>,
@@ -155,6 +158,7 @@ impl Window {
         ensures room { vec_len room.old ≤ vec_len room.new }
     {
         let (kept, behind) = (self.end - self.start, self.buffer.len() - self.end);
+        // Of the bytes that are kept and those that come, the fewer are copied if there is room for that.
         if kept > from || (count <= kept && count <= behind) {
             return self.push(&room[from..from + count]);
         }
@@ -165,7 +169,7 @@ impl Window {
         Ok(())
     }
 
-    /// Lets the first bytes go.
+    /// Removes the first `count` bytes.
     pub fn skip(&mut self, count: usize)
         requires within { count ≤ length self.old }
         ensures { self.new ≡ drop count self.old }

@@ -1,4 +1,4 @@
-//! The operation of a request as a row of what is written: the one table that an opcode, a length and bytes come from.
+//! The operation of a request as a row to be written: the one table from which its opcode, length and bytes are taken.
 
 ghost use Rattle.std.specs.Prelude.{◌≡◌, ◌≤◌, ◌+◌, ◌^◌, ◌++◌, length, vec_len, vec_capacity, IfSome};
 ghost use Rattle.wire.specs.Requests.{new_attributes_layout, new_attributes_values, opcode_of};
@@ -14,7 +14,7 @@ use crate::put::{pair, put, put_low_u32, put_text, put_u32, put_u64, put_words, 
 use crate::request::{HEADER_LEN, NewAttributes, Operation};
 use Part::{Bytes, LowU32, New, Text, U32, U64, Zeros};
 
-/// How many bytes stand behind the size of a SETATTR (`fuse_setattr_in`).
+/// How many bytes come after the size in a SETATTR (`fuse_setattr_in`).
 const NEW_ATTRIBUTES_LEN: usize = 64;
 
 /// A part of a body.
@@ -24,24 +24,24 @@ pub enum Part<'a> {
     U64(u64),
     /// The lowest four bytes of a number.
     LowU32(usize),
-    /// So many zero bytes.
+    /// That many zero bytes.
     Zeros(u8),
     /// A text and a zero byte.
     Text(&'a str),
     Bytes(&'a [u8]),
-    /// What a SETATTR sets besides the size. The owner of locks and the time of the last change are zero.
+    /// What a SETATTR sets besides the size. The lock owner and the time of the last change are zero.
     New(NewAttributes),
 }
 
-/// What is written of an operation.
+/// What is written for an operation.
 #[derive(Clone, Copy)]
 pub struct Row<'a> {
     pub opcode: u32,
-    /// What follows the header, one after another.
+    /// The parts of the body, one after another.
     pub parts: [Part<'a>; 5],
 }
 
-/// The one table of what is written. A part of no bytes fills up a row.
+/// The one table of what is written. Rows are filled up with parts of no bytes.
 #[tactic(auto, using(crate::proofs::Lengths::lengths), unfolding(crate::specs::Written::zeros))]
 pub fn row_of<'a>(operation: &Operation<'a>) -> Row<'a>
     ensures opcode { result.opcode ≡ opcode_of operation.now }
@@ -163,7 +163,7 @@ fn part_len(part: &Part<'_>) -> usize
     }
 }
 
-/// How many bytes a request of these parts has, unless that passes all numbers.
+/// How many bytes a request with these parts has, if a `usize` can hold it.
 pub fn request_len(parts: &[Part<'_>]) -> Option<usize>
     ensures { IfSome result (λ len. len ≡ HEADER_LEN + length (parts_bytes parts.now)) }
 {

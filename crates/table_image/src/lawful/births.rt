@@ -1,4 +1,4 @@
-//! How often each number was born, by what is kept of closed periods and by the postings of the last.
+//! How often each number was born, counted from what is kept of closed periods and from the postings of the last one.
 
 ghost use Rattle.std.specs.Prelude.{◌≡◌, ◌↔◌, ◌+◌, ◌-◌, ◌*◌, ◌<◌, ◌≤◌, ◌^◌, false, IsTrue, IfSome, IfNone, length, sum_by};
 ghost use Rattle.ledger.specs.declared.postings.Posting.TheVariants as Posting;
@@ -8,7 +8,7 @@ ghost use Rattle.table_image.specs.Parts.{after_closed, births_summed};
 
 use ledger::{KeptBirths, Posting, Totals};
 
-/// The generation with which the posting bears the number.
+/// The generation of the number in the posting, if it is a birth of that number.
 fn birth_of(posting: &Posting, number: u64) -> Option<u64>
     ensures some { IfSome result (λ g. posting.now ≡ Posting.Born number g) }
     ensures none { IfNone result (is_birth number posting.now ≡ false) }
@@ -22,7 +22,7 @@ fn birth_of(posting: &Posting, number: u64) -> Option<u64>
     }
 }
 
-/// How often the number was born in closed periods.
+/// How often the number was born in the closed periods.
 pub fn births_closed(kept: &[KeptBirths], number: u64) -> u64
     requires { births_summed kept.now < 2 ^ 64 }
     ensures { result ≡ births_closed number kept.now }
@@ -36,7 +36,7 @@ pub fn births_closed(kept: &[KeptBirths], number: u64) -> u64
     births
 }
 
-/// The generation of the number's last birth, if it was ever born: it bears the number of births before it.
+/// The generation of the number's last birth, if it was ever born: it is the number of births before it.
 pub fn last_generation(kept: &[KeptBirths], postings: &[Posting], number: u64) -> Option<u64>
     requires ordered { IsOrdered (after_closed kept.now postings.now) }
     requires small { births_summed kept.now < 2 ^ 64 }
@@ -51,7 +51,7 @@ pub fn last_generation(kept: &[KeptBirths], postings: &[Posting], number: u64) -
     births_closed(kept, number).checked_sub(1)
 }
 
-/// All births of closed periods.
+/// All births of the closed periods.
 fn births_in_all(kept: &[KeptBirths]) -> u128
     ensures { result ≡ births_summed kept.now }
 {
@@ -84,7 +84,7 @@ fn carried_in_all(postings: &[Posting]) -> u128
     left
 }
 
-/// Whether what is kept of closed periods fits together, and the last begins with all that was left.
+/// Whether what is kept of closed periods is consistent, and the last period begins with everything that was left.
 pub fn are_carried_over(kept: &[KeptBirths], closed: Totals, postings: &[Posting]) -> bool
     ensures { IsTrue result ↔ IsCarriedOver (record { births = kept.now; totals = closed; last = postings.now }) }
 {

@@ -13,7 +13,7 @@ use crate::lawful::postings::{are_never_negative, are_ordered, count, count_in_a
 use ledger::{KeptBirths, Posting};
 use tree::Node;
 
-/// Whether the root, where there is one, has generation 0, count 0 and no mark.
+/// Whether the root, if there is one, has generation 0, count 0 and no mark.
 fn is_root_plain(nodes: &[Node]) -> bool
     ensures { IsTrue result ↔ IsRootPlain (node_at nodes.now) }
 {
@@ -37,7 +37,7 @@ pub fn has_plain_root(nodes: &[Node], postings: &[Posting]) -> bool
     is_root_plain(nodes) && is_root_unposted(postings)
 }
 
-/// Whether the node is the root, or bears the generation of the last birth of its number.
+/// Whether the node is the root, or has the generation of the last birth of its number.
 fn bears_last_birth(node: &Node, kept: &[KeptBirths], postings: &[Posting]) -> bool
     requires ordered { IsOrdered (after_closed kept.now postings.now) }
     requires small { births_summed kept.now < 2 ^ 64 }
@@ -49,7 +49,7 @@ fn bears_last_birth(node: &Node, kept: &[KeptBirths], postings: &[Posting]) -> b
     last_generation(kept, postings, node.number) == Some(node.generation)
 }
 
-/// Whether each node but the root bears the generation of the last birth of its number.
+/// Whether each node except the root has the generation of the last birth of its number.
 fn bear_last_births(nodes: &[Node], kept: &[KeptBirths], postings: &[Posting]) -> bool
     requires distinct { IsDistinct nodes.now }
     requires ordered { IsOrdered (after_closed kept.now postings.now) }
@@ -61,7 +61,7 @@ fn bear_last_births(nodes: &[Node], kept: &[KeptBirths], postings: &[Posting]) -
         .all(|node| bears_last_birth(node, kept, postings))
 }
 
-/// Whether no number was born twice with one generation, and each living node bears the last.
+/// Whether no number was born twice with the same generation, and each living node has the last one.
 pub fn are_born_in_order(nodes: &[Node], kept: &[KeptBirths], postings: &[Posting]) -> bool
     requires distinct { IsDistinct nodes.now }
     requires small { births_summed kept.now < 2 ^ 64 }
@@ -92,7 +92,7 @@ fn are_counts_exact(nodes: &[Node], kept: &[KeptBirths], postings: &[Posting]) -
         .all(|node| is_count_exact(node, kept, postings))
 }
 
-/// Whether the lookup counts of all nodes add up to so much.
+/// Whether the lookup counts of all nodes add up to `total`.
 fn add_up_to(nodes: &[Node], total: u128) -> bool
     ensures { IsTrue result ↔ (counts_in_all nodes.now ≡ total) }
 {
@@ -107,9 +107,10 @@ fn add_up_to(nodes: &[Node], total: u128) -> bool
     left == 0
 }
 
-/// Whether nothing is left of any number and generation that no node bears.
+/// Whether nothing is left of any number and generation that no node has.
 ///
-/// Where each node's count is that of the ledger, this is so exactly if the counts add up to all that is left.
+/// If each node's count is that of the ledger, this is the case exactly if the counts add up to everything that is
+/// left.
 fn are_others_settled(nodes: &[Node], kept: &[KeptBirths], postings: &[Posting]) -> bool
     requires distinct { IsDistinct nodes.now }
     requires never_negative { IsNeverNegative (after_closed kept.now postings.now) }
@@ -119,7 +120,7 @@ fn are_others_settled(nodes: &[Node], kept: &[KeptBirths], postings: &[Posting])
     add_up_to(nodes, count_in_all(kept, postings))
 }
 
-/// Whether each lookup count is that of the ledger, nothing is left of the dead, and no count was ever negative.
+/// Whether each lookup count is that of the ledger, nothing is left of dead nodes, and no count was ever negative.
 pub fn are_counted(nodes: &[Node], kept: &[KeptBirths], postings: &[Posting]) -> bool
     requires distinct { IsDistinct nodes.now }
     requires ordered { IsOrdered (after_closed kept.now postings.now) }

@@ -9,7 +9,7 @@ ghost use Rattle.table_image.specs.Parts.{IsStored, IsHoldCount, HaveOtherPaths,
 use crate::data::{Hold, ImageStage, Record};
 use paths::Path;
 
-/// Whether the work on the request goes on.
+/// Whether work on the request is in progress.
 pub fn is_working(holder: &Record) -> bool
     ensures test { result ≡ is_working holder.now.stage }
     ensures working { IsTrue result ↔ (holder.now.stage ≡ ImageStage.Working) }
@@ -17,21 +17,21 @@ pub fn is_working(holder: &Record) -> bool
     matches!(holder.stage, ImageStage::Working)
 }
 
-/// Whether the request is worked on and shares the path.
+/// Whether the request is in progress and shares the path.
 fn shares(holder: &Record, path: &Path) -> bool
     ensures { result ≡ shares holder.now path.now }
 {
     is_working(holder) && holder.held.shared.contains(path)
 }
 
-/// Whether the request is worked on and holds the path exclusively.
+/// Whether the request is in progress and holds the path exclusively.
 fn holds_exclusively(holder: &Record, path: &Path) -> bool
     ensures { result ≡ holds_exclusively holder.now path.now }
 {
     is_working(holder) && holder.held.exclusive.contains(path)
 }
 
-/// How many of the requests share the path.
+/// How many requests share the path.
 fn sharers_of(records: &[Record], path: &Path) -> u64
     ensures { result ≡ sharers_of records.now path.now }
 {
@@ -44,7 +44,7 @@ fn sharers_of(records: &[Record], path: &Path) -> u64
     count
 }
 
-/// How many of the requests hold the path exclusively.
+/// How many requests hold the path exclusively.
 fn exclusive_of(records: &[Record], path: &Path) -> u64
     ensures { result ≡ exclusive_of records.now path.now }
 {
@@ -74,21 +74,21 @@ fn are_counted(holds: &[Hold], records: &[Record]) -> bool
     holds.iter().all(|hold| is_counted(hold, records))
 }
 
-/// Whether they are of two paths.
+/// Whether the two have different paths.
 fn have_other_paths(one: &Hold, two: &Hold) -> bool
     ensures { IsTrue result ↔ HaveOtherPaths one.now two.now }
 {
     !one.path.is(&two.path)
 }
 
-/// Whether none of the others has the one's path.
+/// Whether none of the others has the same path.
 fn has_own_path(one: &Hold, others: &[Hold]) -> bool
     ensures { IsTrue result ↔ All (HaveOtherPaths one.now) others.now }
 {
     others.iter().all(|other| have_other_paths(one, other))
 }
 
-/// Whether no path stands twice.
+/// Whether no path comes twice.
 fn have_own_paths(holds: &[Hold]) -> bool
     ensures { IsTrue result ↔ AllPairs HaveOtherPaths holds.now }
 {
@@ -100,21 +100,21 @@ fn have_own_paths(holds: &[Hold]) -> bool
     true
 }
 
-/// Whether the path is one of the stored.
+/// Whether the path is stored.
 fn is_stored(holds: &[Hold], path: &Path) -> bool
     ensures { IsTrue result ↔ IsStored holds.now path.now }
 {
     holds.iter().any(|hold| hold.path.is(path))
 }
 
-/// Whether each path is one of the stored.
+/// Whether each of the paths is stored.
 fn are_stored(holds: &[Hold], paths: &[Path]) -> bool
     ensures { IsTrue result ↔ All (IsStored holds.now) paths.now }
 {
     paths.iter().all(|path| is_stored(holds, path))
 }
 
-/// Whether each path that the request holds while it is worked on is one of the stored.
+/// Whether each path that the request holds, if it is in progress, is stored.
 fn are_names_stored(holds: &[Hold], holder: &Record) -> bool
     ensures { IsTrue result ↔ AreStored holds.now holder.now }
 {
@@ -123,7 +123,7 @@ fn are_names_stored(holds: &[Hold], holder: &Record) -> bool
             && are_stored(holds, holder.held.exclusive.as_slice())
 }
 
-/// Whether each path that one of the requests holds is one of the stored.
+/// Whether each path that some request holds is stored.
 fn are_all_stored(holds: &[Hold], records: &[Record]) -> bool
     ensures { IsTrue result ↔ All (AreStored holds.now) records.now }
 {
@@ -131,28 +131,28 @@ fn are_all_stored(holds: &[Hold], records: &[Record]) -> bool
 }
 
 #[tactic(auto, using(crate::proofs::Counted::counts_parts))]
-/// Whether the holds tell how many of the requests that are worked on share a path or hold it exclusively.
+/// Whether the holds say how many requests in progress share each path, and how many hold it exclusively.
 pub fn are_holds_counted(holds: &[Hold], records: &[Record]) -> bool
     ensures { IsTrue result ↔ AreHoldsCounted holds.now records.now }
 {
     have_own_paths(holds) && are_counted(holds, records) && are_all_stored(holds, records)
 }
 
-/// Whether the two are not both worked on, or do not conflict.
+/// Whether at least one of the two is not in progress, or they do not conflict.
 fn are_clear(one: &Record, two: &Record) -> bool
     ensures { IsTrue result ↔ AreClear one.now two.now }
 {
     !is_working(one) || !is_working(two) || !one.held.conflicts_with(&two.held)
 }
 
-/// Whether none of the others conflicts with the one.
+/// Whether the request conflicts with none of the others.
 fn is_clear(one: &Record, others: &[Record]) -> bool
     ensures { IsTrue result ↔ All (AreClear one.now) others.now }
 {
     others.iter().all(|other| are_clear(one, other))
 }
 
-/// Whether no two requests that are worked on conflict.
+/// Whether no two requests in progress conflict.
 pub fn are_apart(records: &[Record]) -> bool
     ensures { IsTrue result ↔ AreApart records.now }
 {

@@ -1,4 +1,4 @@
-//! The law of the paths that were given for the nodes of a request.
+//! The law of the paths recorded for the nodes of a request.
 
 ghost use Rattle.std.specs.Prelude.{◌≡◌, ◌↔◌, ◌<◌, ◌≤◌, ◌+◌, IsTrue, All, Contains, take, length};
 ghost use Rattle.tree.specs.Places.{IsPathOf};
@@ -15,7 +15,7 @@ use holds::{GivenPath, Held};
 use paths::Path;
 use tree::{Node, Place};
 
-/// Whether following parents from the number, the path's names are met, the last one first, and then the root.
+/// Whether following parents from the number passes the names of the path, last one first, and then reaches the root.
 fn is_path_of(nodes: &[Node], number: u64, path: &Path) -> bool
     ensures { IsTrue result ↔ IsPathOf (node_at nodes.now) number path.now }
 {
@@ -37,7 +37,7 @@ fn is_path_of(nodes: &[Node], number: u64, path: &Path) -> bool
 }
 
 #[tactic(auto, using(crate::proofs::Leading::first_names))]
-/// Whether the other path is the path's prefix of so many names.
+/// Whether `other` is the prefix of the path with `len` names.
 fn is_prefix(other: &Path, path: &Path, len: usize) -> bool
     requires { len ≤ length path.now }
     ensures { IsTrue result ↔ (other.now ≡ take len path.now) }
@@ -45,7 +45,7 @@ fn is_prefix(other: &Path, path: &Path, len: usize) -> bool
     other.len() == len && other.is_prefix_of(path)
 }
 
-/// Whether one of the paths is the path's prefix of so many names.
+/// Whether the paths include the prefix with `len` names.
 fn has_prefix(paths: &[Path], path: &Path, len: usize) -> bool
     requires { len ≤ length path.now }
     ensures { IsTrue result ↔ Contains paths.now (take len path.now) }
@@ -53,7 +53,7 @@ fn has_prefix(paths: &[Path], path: &Path, len: usize) -> bool
     paths.iter().any(|other| is_prefix(other, path, len))
 }
 
-/// Whether the path's prefix of so many names is held.
+/// Whether the request holds the prefix with `len` names.
 fn is_prefix_held(held: &Held, path: &Path, len: usize) -> bool
     requires { len ≤ length path.now }
     ensures { IsTrue result ↔ IsHeld held.now (take len path.now) }
@@ -62,7 +62,7 @@ fn is_prefix_held(held: &Held, path: &Path, len: usize) -> bool
         || has_prefix(held.exclusive.as_slice(), path, len)
 }
 
-/// Whether each prefix of the path is held, but the empty one.
+/// Whether the request holds each prefix of the path except the empty one.
 fn are_prefixes_held(held: &Held, path: &Path) -> bool
     ensures { IsTrue result ↔ ArePrefixesHeld held.now path.now }
 {
@@ -75,28 +75,28 @@ fn are_prefixes_held(held: &Held, path: &Path) -> bool
 }
 
 #[tactic(auto, unfolding(crate::specs::Parts::ArePrefixesHeld))]
-/// Whether the path given for a node leads to it, and each prefix of it is held.
+/// Whether the path recorded for a node leads to it, and the request holds each prefix of it.
 fn is_lead(nodes: &[Node], held: &Held, lead: &GivenPath) -> bool
     ensures { IsTrue result ↔ IsGivenPath (node_at nodes.now) held.now lead.now }
 {
     is_path_of(nodes, lead.number, &lead.path) && are_prefixes_held(held, &lead.path)
 }
 
-/// Whether each path given leads to its node, and its prefixes are held.
+/// Whether each recorded path leads to its node, and the request holds its prefixes.
 fn are_leads(nodes: &[Node], held: &Held, leads: &[GivenPath]) -> bool
     ensures { IsTrue result ↔ All (IsGivenPath (node_at nodes.now) held.now) leads.now }
 {
     leads.iter().all(|lead| is_lead(nodes, held, lead))
 }
 
-/// Whether the request is worked on no more, or the paths given to it lead to their nodes.
+/// Whether the request is not in progress, or the paths recorded for it lead to their nodes.
 fn is_known(nodes: &[Node], holder: &Record) -> bool
     ensures { IsTrue result ↔ IsKnown (node_at nodes.now) holder.now }
 {
     !is_working(holder) || are_leads(nodes, &holder.held, holder.held.given.as_slice())
 }
 
-/// Whether the paths given to each request that is worked on lead to their nodes.
+/// Whether the paths recorded for each request in progress lead to their nodes.
 pub fn are_known(nodes: &[Node], records: &[Record]) -> bool
     ensures { IsTrue result ↔ AreKnown (node_at nodes.now) records.now }
 {

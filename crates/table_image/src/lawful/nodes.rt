@@ -12,7 +12,7 @@ ghost use Rattle.table_image.specs.Parts.{HasOneRoot, AreNamesApart, AreAllReach
 
 use tree::{Node, Place};
 
-/// The node that bears the number.
+/// The node with this number.
 pub fn find(nodes: &[Node], number: u64) -> Option<&Node>
     ensures { option_copied result ≡ node_at nodes.now number }
 {
@@ -24,7 +24,7 @@ pub fn find(nodes: &[Node], number: u64) -> Option<&Node>
     None
 }
 
-/// Whether no number is borne twice.
+/// Whether no number comes twice.
 pub fn are_distinct(nodes: &[Node]) -> bool
     ensures { IsTrue result ↔ IsDistinct nodes.now }
 {
@@ -36,7 +36,7 @@ pub fn are_distinct(nodes: &[Node]) -> bool
     true
 }
 
-/// Whether number 1 stands at the root, in its first generation.
+/// Whether number 1 is the root, in its first generation.
 fn is_rooted(nodes: &[Node]) -> bool
     ensures { IsTrue result ↔ IsRooted (node_at nodes.now) }
 {
@@ -46,7 +46,7 @@ fn is_rooted(nodes: &[Node]) -> bool
     }
 }
 
-/// Whether the node is number 1, or stands elsewhere than at the root.
+/// Whether the node is number 1, or is not the root.
 fn is_root_alone(node: &Node) -> bool
     ensures { IsTrue result ↔ IsRootAlone node.now }
 {
@@ -56,7 +56,7 @@ fn is_root_alone(node: &Node) -> bool
     }
 }
 
-/// Whether no node but number 1 stands at the root.
+/// Whether no node but number 1 is the root.
 fn has_one_root(nodes: &[Node]) -> bool
     requires { IsDistinct nodes.now }
     ensures { IsTrue result ↔ HasOneRoot (node_at nodes.now) }
@@ -64,7 +64,7 @@ fn has_one_root(nodes: &[Node]) -> bool
     nodes.iter().all(|node| is_root_alone(node))
 }
 
-/// Whether the two nodes have not both the same parent and the same name.
+/// Whether the two nodes differ in their parent or in their name.
 fn stand_apart(one: &Node, two: &Node) -> bool
     ensures { IsTrue result ↔ StandApart one.now two.now }
 {
@@ -76,14 +76,14 @@ fn stand_apart(one: &Node, two: &Node) -> bool
     }
 }
 
-/// Whether the node stands apart from each of the others.
+/// Whether the node differs from each of the others in its parent or in its name.
 fn stands_apart(node: &Node, others: &[Node]) -> bool
     ensures { IsTrue result ↔ All (StandApart node.now) others.now }
 {
     others.iter().all(|other| stand_apart(node, other))
 }
 
-/// Whether no two nodes have the same parent and the same name.
+/// Whether no two nodes have both the same parent and the same name.
 fn are_names_apart(nodes: &[Node]) -> bool
     requires { IsDistinct nodes.now }
     ensures { IsTrue result ↔ AreNamesApart (node_at nodes.now) }
@@ -118,7 +118,7 @@ fn leads_to_root(nodes: &[Node], number: u64) -> bool
     false
 }
 
-/// Whether following parents from the node, if it is named, ends at the root.
+/// Whether following parents from the node, if it has a name, ends at the root.
 fn is_reached(nodes: &[Node], node: &Node) -> bool
     requires distinct { IsDistinct nodes.now }
     requires rooted { IsRooted (node_at nodes.now) }
@@ -130,7 +130,7 @@ fn is_reached(nodes: &[Node], node: &Node) -> bool
     }
 }
 
-/// Whether following parents from any named node ends at the root.
+/// Whether following parents from any node with a name ends at the root.
 fn are_all_reached(nodes: &[Node]) -> bool
     requires distinct { IsDistinct nodes.now }
     requires rooted { IsRooted (node_at nodes.now) }
@@ -140,7 +140,7 @@ fn are_all_reached(nodes: &[Node]) -> bool
 }
 
 #[tactic(auto, using(crate::proofs::Trees::tree_parts))]
-/// Whether the nodes are a tree of names below the root, beside nodes that are cut.
+/// Whether the nodes are a tree of names below the root, and nodes that are cut.
 pub fn is_tree(nodes: &[Node]) -> bool
     requires { IsDistinct nodes.now }
     ensures { IsTrue result ↔ IsTree (node_at nodes.now) }
@@ -148,7 +148,7 @@ pub fn is_tree(nodes: &[Node]) -> bool
     is_rooted(nodes) && has_one_root(nodes) && are_names_apart(nodes) && are_all_reached(nodes)
 }
 
-/// Whether a hidden mark on the node stands on a name.
+/// Whether the node has a name if it has a hidden mark.
 fn is_mark_named(node: &Node) -> bool
     ensures { IsTrue result ↔ IsMarkNamed node.now }
 {
@@ -158,7 +158,7 @@ fn is_mark_named(node: &Node) -> bool
     }
 }
 
-/// Whether each hidden mark stands on a name.
+/// Whether each node with a hidden mark has a name.
 pub fn are_marks_named(nodes: &[Node]) -> bool
     requires { IsDistinct nodes.now }
     ensures { IsTrue result ↔ AreMarksNamed (node_at nodes.now) }

@@ -12,21 +12,21 @@ use crate::lawful::records::is_alive;
 use table_files::{OpenEntry, OpenFile};
 use tree::Node;
 
-/// Whether the two files have two handles.
+/// Whether the two files have different handles.
 fn has_other_handle(one: &OpenEntry, two: &OpenEntry) -> bool
     ensures { IsTrue result ↔ HaveOtherHandles one.now two.now }
 {
     one.handle != two.handle
 }
 
-/// Whether none of the others has the one's handle.
+/// Whether none of the others has the same handle.
 fn has_own_handle(one: &OpenEntry, others: &[OpenEntry]) -> bool
     ensures { IsTrue result ↔ All (HaveOtherHandles one.now) others.now }
 {
     others.iter().all(|other| has_other_handle(one, other))
 }
 
-/// Whether no two files have one handle.
+/// Whether no two files have the same handle.
 pub fn are_handles_distinct(files: &[OpenEntry]) -> bool
     ensures { IsTrue result ↔ AllPairs (λ f g. f.handle ≢ g.handle) files.now }
 {
@@ -46,21 +46,21 @@ pub fn is_open(files: &[OpenEntry], number: u64) -> bool
 }
 
 #[tactic(auto, unfolding(crate::specs::Parts::IsOfLiving, crate::specs::Parts::IsLiving))]
-/// Whether the node of the file lives.
+/// Whether the node of the file is alive.
 fn is_of_living(nodes: &[Node], file: &OpenEntry) -> bool
     ensures { IsTrue result ↔ IsOfLiving (node_at nodes.now) file.now }
 {
     is_alive(nodes, file.file.number)
 }
 
-/// Whether each open file names a living node.
+/// Whether each open file is of a living node.
 pub fn are_files_alive(nodes: &[Node], files: &[OpenEntry]) -> bool
     ensures { IsTrue result ↔ AreAlive (node_at nodes.now) (opened_in files.now) }
 {
     files.iter().all(|file| is_of_living(nodes, file))
 }
 
-/// Whether the node of the open file lives, with the generation that it had then.
+/// Whether the node of the open file is alive, with the generation that it had when the file was opened.
 fn has_node(nodes: &[Node], file: &OpenFile) -> bool
     ensures { IsTrue result ↔ HasNode (node_at nodes.now) file.now }
 {
@@ -70,14 +70,14 @@ fn has_node(nodes: &[Node], file: &OpenFile) -> bool
     }
 }
 
-/// Whether the file is of a living node, under a handle that was given.
+/// Whether the file is of a living node, and its handle was given out.
 fn is_known_file(nodes: &[Node], file: &OpenEntry, last: u64) -> bool
     ensures { IsTrue result ↔ IsKnownFile (node_at nodes.now) last file.now }
 {
     file.handle <= last && has_node(nodes, &file.file)
 }
 
-/// Whether each file is of a living node, under a handle that was given.
+/// Whether each file is of a living node, and its handle was given out.
 pub fn are_files_known(nodes: &[Node], files: &[OpenEntry], last: u64) -> bool
     ensures { IsTrue result ↔ All (IsKnownFile (node_at nodes.now) last) files.now }
 {

@@ -1,4 +1,4 @@
-//! The law of the postings of a period by themselves: their order, and that no count was ever negative.
+//! The law of the postings of a period alone: their order, and that no count was ever negative.
 
 ghost use Rattle.std.specs.Prelude.{◌≡◌, ◌↔◌, ◌+◌, ◌<◌, ◌^◌, true, IsTrue, All};
 ghost use Rattle.ledger.specs.Sums.{number_of, generation_of, births_of, entries_of, given_back_of, is_opening, carried_by, totals_by, IsAllowed, IsNeverNegative};
@@ -15,7 +15,7 @@ fn is_about(posting: &Posting, number: u64, generation: u64) -> bool
     posting.number() == number && posting.generation() == generation
 }
 
-/// Whether the posting begins the life of that number and generation, or goes on with it in a new period.
+/// Whether the posting is the birth or the opening of that number and generation.
 fn begins(posting: &Posting, number: u64, generation: u64) -> bool
     ensures { IsTrue result ↔ Begins posting.now number generation }
 {
@@ -25,7 +25,7 @@ fn begins(posting: &Posting, number: u64, generation: u64) -> bool
     }
 }
 
-/// Whether the number and generation were begun: only then is any posting about them.
+/// Whether the number and generation has a birth or an opening: only then may other postings be about it.
 fn is_begun(_kept: &[KeptBirths], postings: &[Posting], number: u64, generation: u64) -> bool
     requires { IsOrdered (after_closed _kept.now postings.now) }
     ensures { IsTrue result ↔ IsBegun (after_closed _kept.now postings.now) number generation }
@@ -38,9 +38,9 @@ fn is_begun(_kept: &[KeptBirths], postings: &[Posting], number: u64, generation:
     false
 }
 
-/// The lookup count of the number in that generation: its entries less what came back and was forgotten.
+/// The lookup count of the number in that generation: its entries less what was given back and forgotten.
 ///
-/// The last postings are read first, down to the one that began it.
+/// The last postings are read first, back to the birth or the opening.
 pub fn count(_kept: &[KeptBirths], postings: &[Posting], number: u64, generation: u64) -> u128
     requires ordered { IsOrdered (after_closed _kept.now postings.now) }
     requires never_negative { IsNeverNegative (after_closed _kept.now postings.now) }
@@ -59,21 +59,21 @@ pub fn count(_kept: &[KeptBirths], postings: &[Posting], number: u64, generation
     entries - gone
 }
 
-/// Whether a period begins with the posting.
+/// Whether the posting is an opening.
 fn is_opening(posting: &Posting) -> bool
     ensures { result ≡ is_opening posting.now }
 {
     matches!(*posting, Posting::Opening { .. })
 }
 
-/// Whether a period begins with all of them.
+/// Whether all of them are openings.
 fn are_openings(postings: &[Posting]) -> bool
     ensures { IsTrue result ↔ All (λ p. is_opening p ≡ true) postings.now }
 {
     postings.iter().all(is_opening)
 }
 
-/// Whether an opening of that number and generation may stand after the others.
+/// Whether an opening of that number and generation may follow the others.
 fn may_open(kept: &[KeptBirths], before: &[Posting], number: u64, generation: u64) -> bool
     requires ordered { IsOrdered (after_closed kept.now before.now) }
     requires small { births_summed kept.now < 2 ^ 64 }
@@ -96,7 +96,7 @@ fn is_next(kept: &[KeptBirths], before: &[Posting], number: u64, generation: u64
     }
 }
 
-/// Whether the posting may stand after the others.
+/// Whether the posting may follow the others.
 fn may_stand(kept: &[KeptBirths], before: &[Posting], posting: &Posting) -> bool
     requires ordered { IsOrdered (after_closed kept.now before.now) }
     requires small { births_summed kept.now < 2 ^ 64 }
@@ -119,7 +119,8 @@ fn may_stand(kept: &[KeptBirths], before: &[Posting], posting: &Posting) -> bool
     }
 }
 
-/// Whether openings stand first, each birth bears the number of births before it, and all else stands after what began it.
+/// Whether openings come first, each birth has the number of births before it as its generation, and everything else
+/// comes after the birth or the opening of its number and generation.
 pub fn are_ordered(kept: &[KeptBirths], postings: &[Posting]) -> bool
     requires { births_summed kept.now < 2 ^ 64 }
     ensures { IsTrue result ↔ IsOrdered (after_closed kept.now postings.now) }
@@ -132,7 +133,7 @@ pub fn are_ordered(kept: &[KeptBirths], postings: &[Posting]) -> bool
     true
 }
 
-/// Whether the posting takes no more than is there after the others.
+/// Whether the posting takes no more than there is after the others.
 fn is_allowed(kept: &[KeptBirths], before: &[Posting], posting: &Posting) -> bool
     requires ordered { IsOrdered (after_closed kept.now before.now) }
     requires never_negative { IsNeverNegative (after_closed kept.now before.now) }
@@ -149,7 +150,7 @@ fn is_allowed(kept: &[KeptBirths], before: &[Posting], posting: &Posting) -> boo
     }
 }
 
-/// Whether never more was given back and forgotten than entered.
+/// Whether at no time more was given back and forgotten than entered.
 pub fn are_never_negative(kept: &[KeptBirths], postings: &[Posting]) -> bool
     requires { IsOrdered (after_closed kept.now postings.now) }
     ensures { IsTrue result ↔ IsNeverNegative (after_closed kept.now postings.now) }
@@ -184,7 +185,7 @@ fn taken(posting: &Posting) -> u64
     }
 }
 
-/// The entries of all nodes together, less what came back and was forgotten.
+/// The entries of all nodes together, less what was given back and forgotten.
 pub fn count_in_all(_kept: &[KeptBirths], postings: &[Posting]) -> u128
     requires { IsNeverNegative (after_closed _kept.now postings.now) }
     ensures { result + given_in_all postings.now ≡ entered_in_all postings.now }

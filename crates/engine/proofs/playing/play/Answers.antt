@@ -22,7 +22,7 @@ hides_left : (p : Names) (left : List Names) (rest : ℕ → Plan) (more : ℕ) 
 hides_left p [] rest more call e = absurd (none-some call e)
 hides_left p (c ∷ cs) rest more call e = omega arith
 
--- a script that asks has a call left
+-- a script that asks for a call has one left
 asks_left : (change : Option Call) (ending : LastCall) (call : Asked) → next_of (plan_from change (plan_ending ending)) ≡ Some call → 0 < calls_from change + calls_ending ending
 asks_left (Some first) ending call e = omega arith
 asks_left None (endings.Look p tells) call e = lit< tt

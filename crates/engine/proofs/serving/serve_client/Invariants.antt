@@ -7,7 +7,7 @@ use Rattle.engine.specs.Tables.{worlds, IsIdle}
 use Rattle.engine.specs.Walks.{side, stand, Walks}
 use Rattle.engine.proofs.serving.serve_client.Given as goal
 
--- no whole frame and no bad length is left between two pieces
+-- between two receives the kept bytes begin neither with a whole frame nor with a bad length
 abbrev pub invariant-loop : goal.invariant-loop
 invariant-loop g l = record {
   partial : IsPartial l.cutter.kept;

@@ -6,7 +6,7 @@ use Rattle.engine.specs.Tables.{worlds, IsIdle}
 use Rattle.engine.specs.Walks.{side, stand, Walks}
 use Rattle.engine.proofs.serving.work_off_frames.Given as goal
 
--- the frames so far are worked off
+-- the frames so far are handled
 abbrev pub invariant-loop-frame : goal.invariant-loop-frame
 invariant-loop-frame g l = record {
   stopped : l.cutter.stopped ≡ l.initial.cutter.stopped;
@@ -18,6 +18,6 @@ invariant-loop-frame g l = record {
       (side (around l.link l.served (stand (world_of l.table) l.session.agreed)) l.cutter.kept);
 }
 
--- each frame takes its bytes with it
+-- each frame removes its bytes
 abbrev pub decreases-loop-frame : goal.decreases-loop-frame
 decreases-loop-frame g l = length l.cutter.kept

@@ -1,6 +1,6 @@
 use Rattle.std.specs.Prelude.{◌+◌, vec_len}
 use Rattle.engine_threads.proofs.serving.serve_table.Given as goal
 
--- the history that is just opened
+-- the history that was just opened
 abbrev pub ghosts-serve_opened : goal.ghosts-serve_opened
 ghosts-serve_opened g a = record { history = a.opened.table.shared.table_id; limits = a.limits; threads = vec_len a.trees + 2 }

@@ -19,7 +19,7 @@ returns-in-Some-clause-served g c =
     (λ (a : Account). ∥ ((history : List Made) × HasServed g.C.Calls.gives g.O.LinkOut.sends c.args.limits c.args.settings c.args.calls.items c.args.link_out a.passed a.sums.totals history) ∥₁)
     c.in-Some.account c.ended_by.result.account c.ended_by.ensures.end c.in-Some.ensures.served
 
--- no input ends so
+-- no input ends like this
 pub returns-in-Some-clause-only : goal.returns-in-Some-clause-only
 returns-in-Some-clause-only g c none =
     let p = c.in-Some.account.passed in

@@ -3,7 +3,7 @@ use Rattle.std.proofs.lemmas.List.Sorted.{answers_always}
 use Rattle.ledger.proofs.Rising.{place_found}
 use Rattle.ledger.proofs.births.search.Goals as goal
 
--- the closure tells an entry's number
+-- the closure returns an entry's number
 pub returns : goal.returns
 returns c =
     let found = c.binary_search_by_key.ensures in

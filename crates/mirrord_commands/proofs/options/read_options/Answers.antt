@@ -3,7 +3,7 @@ use Rattle.clap.specs.Words.{App, Row, Text, fault_of, is_simple, is_simple_and_
 use Rattle.mirrord_commands.specs.CommandLine.{mirrord_app, IsAsked}
 use Rattle.mirrord_commands.proofs.options.read_options.Goals as goal
 
--- no argument of the program has a rule on another
+-- no argument of the program has a rule about another
 simple : is_simple_and_free mirrord_app ≡ true
 simple = refl
 

@@ -3,7 +3,7 @@ use Rattle.paths.specs.Prefixes.{Names}
 use Rattle.ops.specs.Scripts.{End, Over, Plan, hide}
 use Rattle.ops.proofs.hiding.unhidden.Goals as goal
 
--- where a candidate is left, a look is asked for
+-- if a candidate is left, a Stat is asked for
 asks : (path : Names) (left : List Names) (rest : ℕ → Plan) (end : End) → 1 ≤ length left → hide path left rest ≡ Over end → ⊥
 asks path [] rest end some over = absurd (omega (arith, some))
 asks path (c ∷ cs) rest end some over = absurd cc

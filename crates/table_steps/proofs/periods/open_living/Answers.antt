@@ -13,7 +13,7 @@ use Rattle.table_steps.proofs.ListingLiving.{living_all, up_to_next, up_to_root}
 use Rattle.table_steps.proofs.NextPeriod.{up_to_count}
 use Rattle.table_steps.proofs.periods.open_living.Goals as goal
 
--- the nodes so far, and the next
+-- the nodes so far, and the next one
 module _ (c : goal.After-open) where
   abbrev so_far : List Posting
   so_far = c.loop-alive.next.made.last

@@ -22,7 +22,7 @@ forget_place-requires-clause-there c key is =
     let h = c.requires.named.2 in
     place_found (slot_at c.args.store.now.nodes) c.args.store.now.index c.args.number h.0 c.requires.stored.indexed h.1 key (sym (c.replace_place-was.ensures.was h.0 h.1) ∙ is)
 
--- once it is written, and before its links are undone
+-- after the node is written, and before its links are removed
 marked : (at mid new : Lookup) (n : ℕ) (x : Node) → mid ≡ with_node at n (record x { place = Cut }) → ((y : Node) → mid n ≡ Some y → new ≡ with_node mid n (record y { hidden = false })) → new ≡ with_node at n (cut_node x)
 marked at mid new n x placed wrote =
     let y : Node = record x { place = Cut } in

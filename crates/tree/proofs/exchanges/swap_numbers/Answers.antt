@@ -32,7 +32,7 @@ set-requires-2 c =
       ];
     }
 
--- once the places are swapped, and before the links are
+-- after the places are swapped, and before the links are
 swapped : (at new : Lookup) (one two : ℕ) (ka kb : Key) → IsNamed at one ka.parent ka.name → IsNamed at two kb.parent kb.name → (x y : Node) → at one ≡ Some x → at two ≡ Some y
     → new ≡ with_node (with_node at one (record x { place = y.place })) two (record y { place = x.place }) → new ≡ swapped_nodes at one (moved_node x kb.parent kb.name) two (moved_node y ka.parent ka.name)
 swapped at new one two ka kb first second x y here here' wrote =
@@ -40,7 +40,7 @@ swapped at new one two ka kb first second x y here here' wrote =
     let at_two = place_same at two y second.0 here' second.1 ∙ second.2 in
     wrote ∙ (λ i. swapped_nodes at one (record x { place = at_two i }) two (record y { place = at_one i }))
 
--- who was there is there
+-- a node that existed still exists
 alive : (at new : Lookup) (one two : ℕ) (x y : Node) → new ≡ with_node (with_node at one x) two y → (m : ℕ) (z : Node) → at m ≡ Some z → IsAlive new m
 alive at new one two x y wrote m z stood =
     let half = alive_written at (with_node at one x) one x refl m z stood in

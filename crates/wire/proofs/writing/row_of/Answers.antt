@@ -4,7 +4,7 @@ use Rattle.wire.proofs.Lengths.{lengths}
 use Rattle.wire.proofs.writing.row_of.Goals.{in-Lookup, in-Forget, in-GetAttr, in-SetAttr, in-MakeDir, in-Unlink, in-RemoveDir, in-Rename, in-Open, in-Read, in-Write, in-StatFs, in-Release, in-Sync, in-Flush, in-Init, in-OpenDir, in-ReadDir, in-ReleaseDir, in-SyncDir, in-Create, in-Interrupt, in-Destroy, in-BatchForget, in-ReadDirPlus, in-Rename2}
 use Rattle.wire.proofs.writing.row_of.Goals as goal
 
--- with the operation in its place the layout is looked up by computing, not by a search over all opcodes
+-- with the operation given, the layout is computed directly and not found by a search over all opcodes
 pub returns-clause-bytes : goal.returns-clause-bytes
 unfolding zeros
 returns-clause-bytes c = elim c.match-operation.branch [

@@ -7,7 +7,7 @@ use Rattle.backing.specs.Memory.{Memory, MakesCall, memory_tree}
 use Rattle.backing.specs.SharedTree.{CallsFor}
 use Rattle.backing.proofs.memory.MemTree.call_for.Goals as goal
 
--- a call of the tree, told on and counted once more
+-- a call of the tree, counted once more by the handle
 counted_for : (old new : Memory) (before after : ℕ) (call : Asked) (told : Told) (answer : Answer)
     → MakesCall old call told new → answer ≡ told.answer → after ≡ counted before (one_if told.failed) → CallsFor old before call answer new after
 counted_for old new before after call told answer makes is count = record {

@@ -3,7 +3,7 @@ use Rattle.engine.specs.Batches.{bytes_of, BeginsEach}
 use Rattle.engine_streams.specs.Streams.{Sends}
 use Rattle.engine_streams.proofs.link.StreamLinkLinkOut.send_all.Given as goal
 
--- so many were offered, and the link stands
+-- that many were offered, and the link is not broken
 abbrev pub invariant-loop-self : goal.invariant-loop-self
 invariant-loop-self g l = record {
   begun : BeginsEach Sends l.initial.self (take (length l.sent.items) (map bytes_of l.frames)) l.sent.items l.self;

@@ -1,6 +1,6 @@
 use Rattle.engine_threads.proofs.running.SharedParts.drop.Goals as goal
 
--- the reader's invariant, which it was handed in with
+-- the invariant of the reader, with which it was passed in
 pub invariant_of-self : goal.invariant_of-self
 invariant_of-self g c =
     let r = c.args.self.reader in

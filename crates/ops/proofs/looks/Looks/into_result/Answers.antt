@@ -5,7 +5,7 @@ use Rattle.ops.specs.Looking.{plan_looking, Looking}
 use Rattle.ops.specs.Scripts.{End, Over}
 use Rattle.ops.proofs.looks.Looks.into_result.Goals as goal
 
--- where a path is left, a look is asked for
+-- if a path is left, a Stat is asked for
 asks : (left : List Names) (found : List (Option FoundFile)) (end : End) → 1 ≤ length left → plan_looking (record { left = left; found = found }) ≡ Over end → ⊥
 asks [] found end some over = absurd (omega (arith, some))
 asks (p ∷ ps) found end some over = absurd cc

@@ -8,7 +8,7 @@ use Rattle.table_image.specs.Parts.{AreCountsExact, IsCountExact, after_closed}
 use Rattle.table_image.proofs.Listed.{each_led, each_listed}
 use Rattle.table_image.proofs.lawful.counts.are_counts_exact.Goals as goal
 
--- in the words of the law
+-- the same in the terms of the law
 count_of_led : (ps : Periods) (xs : List Node) → All (IsCountExact ps) xs → AreCountsExact (node_at xs) ps
 unfolding IsCountExact
 count_of_led ps xs each = record {

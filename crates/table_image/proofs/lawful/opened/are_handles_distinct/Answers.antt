@@ -6,7 +6,7 @@ use Rattle.table_image.specs.Parts.{HaveOtherHandles}
 use Rattle.table_image.proofs.Pairs.{slice_from, pairs_below-more, pairs_after}
 use Rattle.table_image.proofs.lawful.opened.are_handles_distinct.Goals as goal
 
--- what a place of a list reads where none is there
+-- the default that is read past the end of the list
 abbrev none_there : OpenEntry
 none_there = record { handle = 0; file = record { number = 0; generation = 0; access = Reading } }
 

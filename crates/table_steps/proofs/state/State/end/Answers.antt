@@ -104,7 +104,7 @@ give_entries-requires-clause-leads c n h =
     let folders : folders_in c.acts_of-entries.result.entries ≡ folders_of (footprint_in work) = c.acts_of-entries.ensures.folders in
     folder_leads c.args.self.now c.args.id work c.requires.kept c.requires.ending n (subst (λ ns. Contains ns n) folders h)
 
--- the end of a request, by the entries that it gave
+-- the end of a request, given the entries that it gave
 ends_by : (s new : State) → IsKept new → (id : ℕ) (x : Recorded) → (requests_of s.flights).at id ≡ Some x → stage_of x.stage ≡ Answered (length x.pins.numbers) None → (keys : List Key) (found : List Bool) (answer : Answer) → answer ≡ record { id = id; given = answer.given; lost = false; opened = None }
     → GivesAll (world_of s) id (flight_of x) keys found answer.given (world_of new)
     → Ends (world_of s) id (flight_of x) (record { found = found; change = stays; opens = None }) keys answer (world_of new)

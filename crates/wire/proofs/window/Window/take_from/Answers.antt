@@ -3,7 +3,7 @@ use Rattle.std.proofs.Math.Seq.{take-append-add}
 use Rattle.std.proofs.lemmas.List.{drop-take, length-drop, length-take-le}
 use Rattle.wire.proofs.window.Window.take_from.Goals as goal
 
--- what stands in a buffer up to the end of the piece, where bytes were written before it
+-- the contents of a buffer up to the end of the piece, after bytes were written before it
 joined_up : (now kept room : List ℕ) (from count k : ℕ) → length kept ≡ k → k ≤ from → drop (from - k) now ≡ kept ++ drop from room → drop (from - k) (take (from + count) now) ≡ kept ++ take count (drop from room)
 joined_up now kept room from count k size before joined =
     let all : (from - k) + (length kept + count) ≡ from + count = omega (arith, size, before) in
