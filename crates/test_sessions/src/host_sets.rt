@@ -156,7 +156,7 @@ fn set_alone_and_at_once(rt: HostRuntime) -> Result<(), Fail> {
 /// At which call a SETATTR of everything except a handle fails, which comes after a LOOKUP and sets a size of 600
 /// bytes: the number of the call, counted from 1, and its fault. And the size at the end.
 #[derive(Clone, Copy)]
-struct Fails(&'static str, u64, Fault, u64);
+struct Fails(&'static str, u64, PlannedFault, u64);
 
 const FAILS: &[Fails] = &[
     Fails("before the permission bits", 2, Before(EIO), 3),
