@@ -1,0 +1,10 @@
+pub mod Finding
+pub mod Walking
+pub mod Changing
+pub mod Relocating
+pub mod Caching
+pub mod Keeping
+pub mod Moving
+pub mod Leaving
+pub mod CallerLemmas
+pub mod Counting
