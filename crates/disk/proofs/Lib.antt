@@ -1,0 +1,10 @@
+pub mod Spotting
+pub mod Naming
+pub mod Changing
+pub mod PutAndRemove
+pub mod PathSetting
+pub mod Renaming
+pub mod MoveRoom
+pub mod Leading
+pub mod RootAlone
+pub mod Failing

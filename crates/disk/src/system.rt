@@ -1,0 +1,100 @@
+//! The calls of a system of which nothing is known, as the real one.
+
+ghost use Rattle.disk.specs.Names.{IsLawfulName};
+
+use crate::error::DiskError;
+use crate::stat::{Access, Change, Stat};
+use paths::Name;
+use std::alloc::Global;
+
+/// The calls of `Disk`, by the same names, of which nothing is said. Each name that is handed to them is lawful, and neither the
+/// buffer of `read_at` nor the bytes of `write_at` are empty.
+pub trait System {
+    /// A file or folder that is open for as long as the value is there.
+    type Handle: Drop;
+
+    fn alloc(&self) -> Global;
+
+    fn now(&self) -> u64;
+
+    fn changes(&self) -> u64;
+
+    fn keeps_files(&self) -> bool;
+
+    fn open_root(&self) -> Result<Self::Handle, DiskError>;
+
+    fn inspect(&self, handle: &Self::Handle) -> Result<Stat, DiskError>;
+
+    fn look(&self, dir: &Self::Handle, name: &Name) -> Result<Stat, DiskError>
+        requires { IsLawfulName name.now };
+
+    fn open_dir(&self, dir: &Self::Handle, name: &Name) -> Result<Self::Handle, DiskError>
+        requires { IsLawfulName name.now };
+
+    fn open_file(
+        &self,
+        dir: &Self::Handle,
+        name: &Name,
+        access: Access,
+    ) -> Result<Self::Handle, DiskError>
+        requires { IsLawfulName name.now };
+
+    /// A count above the buffer's length is a failure.
+    fn read_at(
+        &self,
+        file: &Self::Handle,
+        buffer: &mut [u8],
+        offset: u64,
+    ) -> Result<usize, DiskError>;
+
+    fn list(&self, dir: &Self::Handle) -> Result<Vec<Name>, DiskError>;
+
+    fn sync(&self, handle: &Self::Handle) -> Result<(), DiskError>;
+
+    fn set(&self, handle: &Self::Handle, change: Change) -> Result<(), DiskError>;
+
+    fn set_at(&self, dir: &Self::Handle, name: &Name, change: Change) -> Result<(), DiskError>
+        requires { IsLawfulName name.now };
+
+    /// A count above the number of bytes is a failure.
+    fn write_at(
+        &mut self,
+        file: &Self::Handle,
+        bytes: &[u8],
+        offset: u64,
+    ) -> Result<usize, DiskError>;
+
+    fn set_len(&mut self, file: &Self::Handle, size: u64) -> Result<(), DiskError>;
+
+    fn make_file(
+        &mut self,
+        dir: &Self::Handle,
+        name: &Name,
+        permissions: Option<u32>,
+    ) -> Result<Self::Handle, DiskError>
+        requires { IsLawfulName name.now };
+
+    fn make_dir(
+        &mut self,
+        dir: &Self::Handle,
+        name: &Name,
+        permissions: Option<u32>,
+    ) -> Result<(), DiskError>
+        requires { IsLawfulName name.now };
+
+    fn remove_file(&mut self, dir: &Self::Handle, name: &Name) -> Result<(), DiskError>
+        requires { IsLawfulName name.now };
+
+    fn remove_dir(&mut self, dir: &Self::Handle, name: &Name) -> Result<(), DiskError>
+        requires { IsLawfulName name.now };
+
+    fn rename(
+        &mut self,
+        from_dir: &Self::Handle,
+        from: &Name,
+        to_dir: &Self::Handle,
+        to: &Name,
+    ) -> Result<(), DiskError>
+        requires from { IsLawfulName from.now }
+        requires to { IsLawfulName to.now };
+}

@@ -1,0 +1,57 @@
+-- What calls of several steps came to.
+use Rattle.std.specs.Prelude.{◌≡◌, ◌≤◌, ◌⊎◌, ◌^◌, ◌++◌, ℕ, List, Option, None, Some, bit_and, bit_or}
+use Rattle.disk.specs.declared.stat.Access.{Access}
+use Rattle.disk.specs.declared.stat.Change.{Change}
+use Rattle.disk.specs.declared.stat.Change.TheVariants.{Permissions, Owner, Times}
+use Rattle.disk.specs.declared.stat.Stat.{Stat}
+use Rattle.linux_disk.specs.Calls.{Done, Looked, OpenedFile, Set, SetAt}
+use Rattle.linux_disk.specs.Places.{way_to}
+
+-- the text leads to that name in the folder that is open under the number, maybe behind a guard
+pub record Leads (number : ℕ) (name text : List ℕ) : Type 0 where
+  pub guard : List ℕ
+  pub spelled : text ≡ guard ++ (way_to number ++ name)
+
+-- that name was opened
+pub record WasOpened (did : Done → Type 0) (number : ℕ) (name : List ℕ) (access : Access) (stamp : ℕ) : Type 0 where
+  pub text : List ℕ
+  pub leads : Leads number name text
+  pub done : did (OpenedFile text access stamp)
+
+-- that was set of the name
+pub record WasSetAt (did : Done → Type 0) (number : ℕ) (name : List ℕ) (change : Change) : Type 0 where
+  pub text : List ℕ
+  pub leads : Leads number name text
+  pub done : did (SetAt text change)
+
+-- nothing is to be set
+abbrev pub IsNothing : Change → Type 0
+IsNothing (Permissions bits) = ⊥
+IsNothing (Owner uid gid) = (uid ≡ None) × (gid ≡ None)
+IsNothing (Times accessed modified) = (accessed ≡ None) × (modified ≡ None)
+
+-- the bits that a new file or folder is asked to have
+abbrev pub bits_of : (default : ℕ) → Option ℕ → ℕ
+bits_of default None = default
+bits_of default (Some wanted) = bit_and wanted 4095
+
+-- A new file has the bits that were asked for: the mask takes none of them, or they were set.
+abbrev pub HasBits : (did : Done → Type 0) → (mask stamp : ℕ) → Option ℕ → Type 0
+HasBits did mask stamp None = Unit {0}
+HasBits did mask stamp (Some wanted) = (bit_and wanted mask ≡ 0) ⊎ did (Set stamp (Permissions wanted))
+
+-- those were set of the folder with that name, beside the ones that it had
+pub record WasCompleted (did : Done → Type 0) (dir number : ℕ) (name : List ℕ) (wanted : ℕ) : Type 0 where
+  pub stat : Stat
+  pub seen : did (Looked dir name stat)
+  pub set : WasSetAt did number name (Permissions (bit_or stat.details.permissions wanted))
+
+-- So has a new folder.
+abbrev pub HasBitsAt : (did : Done → Type 0) → (mask dir number : ℕ) → (name : List ℕ) → Option ℕ → Type 0
+HasBitsAt did mask dir number name None = Unit {0}
+HasBitsAt did mask dir number name (Some wanted) = (bit_and wanted mask ≡ 0) ⊎ WasCompleted did dir number name wanted
+
+-- no file of the system has a byte there
+pub record ReadsNone (offset n : ℕ) : Type 0 where
+  pub far : 2 ^ 63 ≤ offset
+  pub none : n ≡ 0

@@ -1,0 +1,57 @@
+//! What is open.
+
+ghost use Rattle.std.specs.Prelude.{◌≡◌, IsTrue};
+ghost use Rattle.linux_disk.specs.Places.{WasPrivate};
+
+use crate::calls::SystemCalls;
+use disk::FileId;
+use std::cell::Cell;
+use std::marker::PhantomData;
+
+/// What was last seen of an open folder.
+#[derive(Drop)]
+pub(crate) struct Seen<C: SystemCalls> {
+    /// Which folder it was.
+    pub(crate) stamp: u64,
+    pub(crate) id: FileId,
+    /// The user by whose rights the process acts.
+    pub(crate) user: u32,
+    /// Nobody but that user may change the names in it.
+    pub(crate) is_private: bool,
+    /// How often the rights of folders had been set then.
+    pub(crate) rights: u64,
+    pub(crate) told_by: PhantomData<C>,
+    ghost safe: { ∥ (IsTrue is_private → WasPrivate C.did user stamp) ∥₁ },
+}
+
+/// A file or folder that is open for as long as the value is there. No value ever comes back.
+#[derive(Drop)]
+pub struct Handle<C: SystemCalls> {
+    pub(crate) fd: C::Fd,
+    pub(crate) is_folder: bool,
+    pub(crate) seen: Cell<Option<Seen<C>>>,
+}
+
+impl<C: SystemCalls> Handle<C> {
+    /// A file.
+    pub(crate) fn file(fd: C::Fd) -> Handle<C>
+        ensures { result.fd ≡ fd }
+    {
+        Handle {
+            fd,
+            is_folder: false,
+            seen: Cell::new(None),
+        }
+    }
+
+    /// A folder of which nothing was seen yet.
+    pub(crate) fn folder(fd: C::Fd) -> Handle<C>
+        ensures { result.fd ≡ fd }
+    {
+        Handle {
+            fd,
+            is_folder: true,
+            seen: Cell::new(None),
+        }
+    }
+}

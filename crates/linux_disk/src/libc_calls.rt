@@ -1,0 +1,301 @@
+//! Linux's calls, through the C library.
+
+ghost use Rattle.std.specs.Prelude.{◌≡◌, ◌<◌, ◌≤◌, ◌^◌, pos, IfOk, length};
+ghost use Rattle.std.specs.Fd.{owned_raw_fd};
+
+use crate::calls::SystemCalls;
+use crate::changes::{owner_number, time_words};
+use crate::errors::failure_of;
+use crate::mask::read_mask;
+use crate::page::Page;
+use crate::returned::{count_of, expect_done, owned};
+use crate::stat::{PERMISSION_BITS, stat_of};
+use crate::unfilled::new_statx;
+use backing::NewTime;
+use disk::{Access, Change, DiskError, Stat};
+use errno::{EACCES, EBADF, EINVAL, EIO};
+use libc::types::timespec;
+use std::alloc::{AllocError, Global};
+use std::os::fd::{AsRawFd, OwnedFd};
+use std::sync::Arc;
+use std::sync::atomic::{AtomicU64, Ordering};
+
+/// The folder of the process's descriptors.
+const DESCRIPTORS: &[u8] = b"/proc/self/fd";
+
+/// A file or folder that is open.
+#[derive(Drop)]
+pub struct OpenFd {
+    fd: OwnedFd,
+    number: u32,
+    stamp: u64,
+    ghost number_is: { owned_raw_fd fd ≡ pos number },
+}
+
+/// The descriptor itself keeps how far its names were read.
+#[derive(Drop)]
+pub struct Rewound;
+
+/// Linux. Each call is one of the system's, but where it says more.
+#[derive(Drop)]
+pub struct LibC {
+    /// How many files and folders were opened.
+    stamps: Arc<AtomicU64>,
+    /// By whose rights it acts.
+    user: u32,
+    /// Which bits it takes of what it makes.
+    mask: u32,
+}
+
+impl LibC {
+    /// Nothing was opened yet. The mask is read once: `open`, `read` and `close`.
+    pub fn new(alloc: Global) -> Result<LibC, AllocError> {
+        Ok(LibC {
+            stamps: Arc::new(alloc, AtomicU64::new(0))?,
+            user: libc::geteuid(),
+            mask: read_mask(),
+        })
+    }
+
+    /// The same once more: no stamp comes twice.
+    pub fn share(&self) -> Result<LibC, AllocError> {
+        Ok(LibC {
+            stamps: Arc::try_clone(&self.stamps)?,
+            user: self.user,
+            mask: self.mask,
+        })
+    }
+
+    /// What the call opened.
+    fn opened(&self, fd: i32) -> Result<OpenFd, DiskError> {
+        let fd = owned(fd)?;
+        let raw = fd.as_raw_fd();
+        match u32::try_from(raw) {
+            Ok(number) => Ok(OpenFd {
+                fd,
+                number,
+                stamp: self.stamps.fetch_add(1, Ordering::SeqCst),
+            }),
+            Err(_) => Err(DiskError::Failed(EBADF)),
+        }
+    }
+}
+
+impl SystemCalls for LibC {
+    type Fd = OpenFd;
+
+    type Cursor = Rewound;
+
+    ghost number = { λ fd. fd.number };
+
+    ghost stamp = { λ fd. fd.stamp };
+
+    ghost did = { λ _. Unit {0} };
+
+    ghost begins = { λ _ _. Unit {0} };
+
+    ghost advances = { λ _ _ _. Unit {0} };
+
+    ghost entered = { Unit {0} };
+
+    ghost guards = { λ _. Unit {0} };
+
+    ghost user = { λ s. s.user };
+
+    ghost mask = { λ s. s.mask };
+
+    fn number(&self, fd: &OpenFd) -> u32 {
+        fd.number
+    }
+
+    fn stamp(&self, fd: &OpenFd) -> u64 {
+        fd.stamp
+    }
+
+    fn user(&self) -> u32 {
+        self.user
+    }
+
+    fn mask(&self) -> u32 {
+        self.mask
+    }
+
+    fn milliseconds(&self) -> u64 {
+        let mut time = timespec {
+            tv_sec: 0,
+            tv_nsec: 0,
+        };
+        let _ = libc::clock_gettime(libc::CLOCK_MONOTONIC, &mut time);
+        let seconds = u64::try_from(time.tv_sec).unwrap_or(0);
+        let nanos = u64::try_from(time.tv_nsec).unwrap_or(0);
+        seconds
+            .saturating_mul(1_000)
+            .saturating_add(nanos / 1_000_000)
+    }
+
+    fn enter_descriptors(&self) -> Result<(), DiskError> {
+        expect_done(os::chdir(DESCRIPTORS))
+    }
+
+    fn open_top(&self, path: &[u8]) -> Result<OpenFd, DiskError> {
+        self.opened(os::open_dir_at(libc::AT_FDCWD, path))
+    }
+
+    /// Two calls of `open`, of which the first must fail with ELOOP.
+    fn refuses_links(&self, _own: &OpenFd, _guard: &Page, to_link: &Page, to_file: &Page) -> bool {
+        match owned(os::open_with(to_link.text(), libc::O_RDONLY, 0)) {
+            Err(DiskError::Failed(libc::ELOOP)) => {
+                owned(os::open_with(to_file.text(), libc::O_RDONLY, 0)).is_ok()
+            }
+            _ => false,
+        }
+    }
+
+    fn open_again(&self, dir: &OpenFd) -> Result<OpenFd, DiskError> {
+        self.opened(os::open_dir_at(dir.fd.as_raw_fd(), b"."))
+    }
+
+    fn open_dir(&self, dir: &OpenFd, name: &[u8]) -> Result<OpenFd, DiskError> {
+        self.opened(os::open_dir_at(dir.fd.as_raw_fd(), name))
+    }
+
+    fn look(&self, dir: &OpenFd, name: &Page) -> Result<Stat, DiskError> {
+        look(&dir.fd, name, libc::AT_SYMLINK_NOFOLLOW)
+    }
+
+    fn inspect(&self, fd: &OpenFd, none: &Page) -> Result<Stat, DiskError> {
+        look(&fd.fd, none, libc::AT_EMPTY_PATH)
+    }
+
+    fn open_file(&self, _dir: &OpenFd, path: &Page, access: Access) -> Result<OpenFd, DiskError> {
+        let flags = match access {
+            Access::Read => libc::O_RDONLY,
+            Access::Write => libc::O_RDWR,
+        };
+        self.opened(os::open_with(path.text(), flags, 0))
+    }
+
+    fn make_file(&self, _dir: &OpenFd, path: &Page, permissions: u32) -> Result<OpenFd, DiskError> {
+        let flags = libc::O_RDWR | libc::O_CREAT | libc::O_EXCL;
+        self.opened(os::open_with(path.text(), flags, permissions))
+    }
+
+    fn make_dir(&self, _dir: &OpenFd, path: &Page, permissions: u32) -> Result<(), DiskError> {
+        expect_done(unsafe { libc::mkdir(path.c_string(), permissions) })
+    }
+
+    fn remove_file(&self, dir: &OpenFd, name: &[u8]) -> Result<(), DiskError> {
+        expect_done(os::unlink_at(dir.fd.as_raw_fd(), name))
+    }
+
+    fn remove_dir(&self, dir: &OpenFd, name: &[u8]) -> Result<(), DiskError> {
+        expect_done(os::rmdir_at(dir.fd.as_raw_fd(), name))
+    }
+
+    fn rename(
+        &self,
+        _from_dir: &OpenFd,
+        from: &Page,
+        _to_dir: &OpenFd,
+        to: &Page,
+    ) -> Result<(), DiskError> {
+        expect_done(unsafe { libc::rename(from.c_string(), to.c_string()) })
+    }
+
+    fn read_at(&self, file: &OpenFd, buffer: &mut [u8], offset: u64) -> Result<usize, DiskError> {
+        count_of(libc::pread(file.fd.as_raw_fd(), buffer, offset as i64))
+    }
+
+    fn write_at(&self, file: &OpenFd, bytes: &[u8], offset: u64) -> Result<usize, DiskError> {
+        count_of(libc::pwrite(file.fd.as_raw_fd(), bytes, offset as i64))
+    }
+
+    fn set_len(&self, file: &OpenFd, size: u64) -> Result<(), DiskError> {
+        expect_done(libc::ftruncate(file.fd.as_raw_fd(), size as i64))
+    }
+
+    fn sync(&self, fd: &OpenFd) -> Result<(), DiskError> {
+        expect_done(libc::fsync(fd.fd.as_raw_fd()))
+    }
+
+    /// `fchmod`, `fchown` or `futimens`.
+    fn set(&self, fd: &OpenFd, change: Change) -> Result<(), DiskError> {
+        let fd = fd.fd.as_raw_fd();
+        match change {
+            Change::Permissions(bits) => expect_done(libc::fchmod(fd, bits & PERMISSION_BITS)),
+            Change::Owner { uid, gid } => match (owner_number(uid), owner_number(gid)) {
+                (Some(owner), Some(group)) => expect_done(libc::fchown(fd, owner, group)),
+                _ => Err(DiskError::Failed(EINVAL)),
+            },
+            Change::Times { accessed, modified } => set_times(fd, accessed, modified),
+        }
+    }
+
+    /// `chmod`, which follows a link, or `lchown`.
+    fn set_at(&self, _dir: &OpenFd, path: &Page, change: Change) -> Result<(), DiskError> {
+        let path = path.c_string();
+        match change {
+            Change::Permissions(bits) => {
+                expect_done(unsafe { libc::chmod(path, bits & PERMISSION_BITS) })
+            }
+            Change::Owner { uid, gid } => match (owner_number(uid), owner_number(gid)) {
+                (Some(owner), Some(group)) => {
+                    expect_done(unsafe { libc::lchown(path, owner, group) })
+                }
+                _ => Err(DiskError::Failed(EINVAL)),
+            },
+            Change::Times { .. } => Err(DiskError::Failed(EACCES)),
+        }
+    }
+
+    /// `lseek`.
+    fn rewind(&self, dir: &OpenFd) -> Result<Rewound, DiskError> {
+        if libc::lseek(dir.fd.as_raw_fd(), 0, libc::SEEK_SET) == 0 {
+            Ok(Rewound)
+        } else {
+            Err(DiskError::Failed(EIO))
+        }
+    }
+
+    /// `getdents`.
+    fn next_names(
+        &self,
+        dir: &OpenFd,
+        _at: &mut Rewound,
+        buffer: &mut [u8],
+    ) -> Result<usize, DiskError> {
+        let n = os::read_dir(dir.fd.as_raw_fd(), buffer);
+        match os::errno() {
+            0 => Ok(n),
+            errno => Err(failure_of(errno)),
+        }
+    }
+}
+
+/// One `statx`.
+fn look(fd: &OwnedFd, name: &Page, flags: i32) -> Result<Stat, DiskError> {
+    let mut told = new_statx();
+    let ret = unsafe {
+        libc::statx(
+            fd.as_raw_fd(),
+            name.c_string(),
+            flags,
+            libc::STATX_BASIC_STATS,
+            &mut told,
+        )
+    };
+    expect_done(ret)?;
+    Ok(stat_of(&told))
+}
+
+/// One `futimens`.
+fn set_times(
+    fd: i32,
+    accessed: Option<NewTime>,
+    modified: Option<NewTime>,
+) -> Result<(), DiskError> {
+    match (time_words(accessed), time_words(modified)) {
+        (Some(accessed), Some(modified)) => expect_done(libc::futimens(fd, &[accessed, modified])),
+        _ => Err(DiskError::Failed(EINVAL)),
+    }
+}

@@ -1,0 +1,95 @@
+//! The names in a folder.
+
+ghost use Rattle.std.specs.Prelude.{IfOk, OnOk};
+ghost use Rattle.linux_disk.specs.Listings.{AddsName, AddsPart, ListsAll, ReadsNext};
+
+use crate::calls::SystemCalls;
+use crate::linux::Linux;
+use disk::{DiskError, is_lawful};
+use errno::{EIO, ENOMEM};
+use paths::Name;
+use std::alloc::{AllocError, Global};
+use std::str;
+
+/// So many bytes of names are asked for at once.
+const NAMES_ROOM: usize = 32_768;
+
+impl<C: SystemCalls + Drop> Linux<C> {
+    /// The names that are text, but `.` and `..`: `lseek`, and `getdents` until there is none.
+    pub(crate) fn list_open(
+        &self,
+        buffer: &mut Vec<u8>,
+        dir: &C::Fd,
+    ) -> Result<Vec<Name>, DiskError>
+        ensures { IfOk result (λ names. ListsAll C.begins C.advances (C.stamp dir.now) names.items) }
+    {
+        let mut at = self.calls.rewind(dir)?;
+        let mut names = Vec::new(self.alloc);
+        for _part in 0..u64::MAX {
+            if !read_names(&self.calls, dir, &mut at, buffer, &mut names)? {
+                return Ok(names);
+            }
+        }
+        Err(DiskError::Failed(EIO))
+    }
+
+    /// The buffer that is kept, or a new one.
+    pub(crate) fn names_room(&self) -> Result<Vec<u8>, DiskError> {
+        match self.names.take() {
+            Some(room) => Ok(room),
+            None => match vec![in self.alloc; 0u8; NAMES_ROOM] {
+                Ok(room) => Ok(room),
+                Err(_) => Err(DiskError::Failed(ENOMEM)),
+            },
+        }
+    }
+}
+
+/// Reads the next names, and adds them. It answers whether there were any.
+fn read_names<C: SystemCalls>(
+    calls: &C,
+    dir: &C::Fd,
+    at: &mut C::Cursor,
+    buffer: &mut Vec<u8>,
+    names: &mut Vec<Name>,
+) -> Result<bool, DiskError>
+    ensures { IfOk result (ReadsNext C.advances at.old at.new names.old.items names.new.items) }
+{
+    let n = calls.next_names(dir, at, buffer)?;
+    match push_names(names, &buffer[..n]) {
+        Ok(()) => Ok(n != 0),
+        Err(_) => Err(DiskError::Failed(ENOMEM)),
+    }
+}
+
+/// Adds the names, each of which has a NUL behind it.
+fn push_names(names: &mut Vec<Name>, listed: &[u8]) -> Result<(), AllocError>
+    ensures { OnOk result (AddsPart listed.now names.old.items names.new.items) }
+{
+    let mut at = 0;
+    while at < listed.len() {
+        let (_, rest) = listed.split_at(at);
+        let n = os::name_length(rest);
+        let (name, _) = rest.split_at(n);
+        push_name(names, name)?;
+        at += n + 1;
+    }
+    Ok(())
+}
+
+/// Adds the name, if it is one and text.
+fn push_name(names: &mut Vec<Name>, name: &[u8]) -> Result<(), AllocError>
+    ensures { OnOk result (AddsName name.now names.old.items names.new.items) }
+{
+    if !is_lawful(name) {
+        return Ok(());
+    }
+    match str::from_utf8(name) {
+        Ok(text) => {
+            let name = Name::copy_of(*names.allocator(), text)?;
+            names.push(name)?;
+            Ok(())
+        }
+        Err(_) => Ok(()),
+    }
+}

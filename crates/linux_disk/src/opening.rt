@@ -1,0 +1,102 @@
+//! Calls that open or set by a text.
+
+ghost use Rattle.std.specs.Prelude.{◌≡◌, ◌⊎◌, IsTrue, IfOk, OnOk};
+ghost use Rattle.disk.specs.Names.{IsLawfulName};
+ghost use Rattle.linux_disk.specs.Calls.{Looked, Set};
+ghost use Rattle.linux_disk.specs.Steps.{IsNothing, WasOpened, WasSetAt};
+
+use crate::again;
+use crate::calls::SystemCalls;
+use crate::handle::Handle;
+use crate::linux::Linux;
+use crate::page::Page;
+use crate::places::name_alone;
+use disk::{Access, Change, DiskError, Stat};
+use paths::Name;
+
+/// Whether nothing is to be set.
+fn is_nothing(change: Change) -> bool
+    ensures { IsTrue result → IsNothing change }
+{
+    match change {
+        Change::Permissions(_) => false,
+        Change::Owner { uid, gid } => uid.is_none() && gid.is_none(),
+        Change::Times { accessed, modified } => accessed.is_none() && modified.is_none(),
+    }
+}
+
+/// Whether it may change who else may write in a folder.
+fn is_about_rights(change: Change) -> bool {
+    match change {
+        Change::Permissions(_) | Change::Owner { .. } => true,
+        Change::Times { .. } => false,
+    }
+}
+
+impl<C: SystemCalls + Drop> Linux<C> {
+    /// What stands at the name: `statx`.
+    pub(crate) fn look_at(
+        &self,
+        page: &mut Page,
+        dir: &Handle<C>,
+        name: &Name,
+    ) -> Result<Stat, DiskError>
+        requires { IsLawfulName name.now }
+        ensures { IfOk result (λ stat. C.did (Looked (C.stamp dir.now.fd) name.now stat)) }
+    {
+        name_alone(page, name.as_str().as_bytes())?;
+        self.calls.look(&dir.fd, page)
+    }
+
+    /// Opens the file at the name: `open`, and `statx` where the folder has not been seen yet.
+    pub(crate) fn open_at(
+        &self,
+        page: &mut Page,
+        dir: &Handle<C>,
+        name: &Name,
+        access: Access,
+    ) -> Result<Handle<C>, DiskError>
+        requires { IsLawfulName name.now }
+        ensures { IfOk result (λ file. WasOpened C.did (C.number dir.now.fd) name.now access (C.stamp file.fd)) }
+    {
+        self.safe_place(page, dir, name)?;
+        let fd = again::open_file(&self.calls, &dir.fd, page, access)?;
+        Ok(Handle::file(fd))
+    }
+
+    /// Sets it of what is open: `fchmod`, `fchown` or `futimens`.
+    pub(crate) fn set_open(&self, handle: &Handle<C>, change: Change) -> Result<(), DiskError>
+        ensures { OnOk result (IsNothing change ⊎ C.did (Set (C.stamp handle.now.fd) change)) }
+    {
+        if is_nothing(change) {
+            return Ok(());
+        }
+        let told = again::set(&self.calls, &handle.fd, change);
+        if handle.is_folder && is_about_rights(change) {
+            self.counts.note_rights();
+        }
+        told
+    }
+
+    /// Sets it of what stands at the name: `chmod` or `lchown`, and `statx` where the folder has not been seen yet.
+    pub(crate) fn set_named(
+        &self,
+        page: &mut Page,
+        dir: &Handle<C>,
+        name: &Name,
+        change: Change,
+    ) -> Result<(), DiskError>
+        requires { IsLawfulName name.now }
+        ensures { OnOk result (IsNothing change ⊎ WasSetAt C.did (C.number dir.now.fd) name.now change) }
+    {
+        if is_nothing(change) {
+            return Ok(());
+        }
+        self.safe_place(page, dir, name)?;
+        let told = again::set_at(&self.calls, &dir.fd, page, change);
+        if is_about_rights(change) {
+            self.counts.note_rights();
+        }
+        told
+    }
+}

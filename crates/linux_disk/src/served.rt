@@ -1,0 +1,220 @@
+//! A folder of Linux as a system. Which call of Linux's each one is, the function that it calls says.
+
+ghost use Rattle.std.specs.Prelude.{◌≡◌, ◌⊎◌, ◌≤◌, ◌++◌, IfOk, OnOk, length, take};
+ghost use Rattle.disk.specs.Names.{IsLawfulName};
+ghost use Rattle.linux_disk.specs.Calls.{Done, Looked, Inspected, OpenedAgain, OpenedDir, Read, Wrote, SetLen, Synced, Set, MadeFile, MadeDir, RemovedFile, RemovedDir, Renamed};
+ghost use Rattle.linux_disk.specs.Listings.{ListsAll};
+ghost use Rattle.linux_disk.specs.Places.{way_to};
+ghost use Rattle.linux_disk.specs.Steps.{HasBits, HasBitsAt, IsNothing, ReadsNone, WasOpened, WasSetAt, bits_of};
+
+use crate::again;
+use crate::calls::SystemCalls;
+use crate::handle::Handle;
+use crate::linux::{Linux, page_of};
+use disk::{Access, Change, DiskError, Stat, System};
+use errno::EFBIG;
+use paths::Name;
+use std::alloc::Global;
+
+/// No file of the system has a byte at this place or behind it.
+const END: u64 = 1 << 63;
+
+impl<C: SystemCalls + Drop> System for Linux<C> {
+    type Handle = Handle<C>;
+
+    fn alloc(&self) -> Global {
+        self.alloc
+    }
+
+    fn now(&self) -> u64 {
+        self.calls.milliseconds()
+    }
+
+    fn changes(&self) -> u64 {
+        self.counts.changes()
+    }
+
+    fn keeps_files(&self) -> bool {
+        false
+    }
+
+    /// `openat`.
+    fn open_root(&self) -> Result<Handle<C>, DiskError>
+        ensures { IfOk result (λ dir. C.did (OpenedAgain (C.stamp self.now.root) (C.stamp dir.fd))) }
+    {
+        let fd = again::open_again(&self.calls, &self.root)?;
+        Ok(Handle::folder(fd))
+    }
+
+    /// `statx`.
+    fn inspect(&self, handle: &Handle<C>) -> Result<Stat, DiskError>
+        ensures { IfOk result (λ stat. C.did (Inspected (C.stamp handle.now.fd) stat)) }
+    {
+        let mut page = page_of(self.alloc, &self.path)?;
+        let told = self.inspect_open(&mut page, handle);
+        self.path.keep(page);
+        told
+    }
+
+    fn look(&self, dir: &Handle<C>, name: &Name) -> Result<Stat, DiskError>
+        requires { IsLawfulName name.now }
+        ensures { IfOk result (λ stat. C.did (Looked (C.stamp dir.now.fd) name.now stat)) }
+    {
+        let mut page = page_of(self.alloc, &self.path)?;
+        let told = self.look_at(&mut page, dir, name);
+        self.path.keep(page);
+        told
+    }
+
+    /// `openat`.
+    fn open_dir(&self, dir: &Handle<C>, name: &Name) -> Result<Handle<C>, DiskError>
+        requires { IsLawfulName name.now }
+        ensures { IfOk result (λ sub. C.did (OpenedDir (C.stamp dir.now.fd) name.now (C.stamp sub.fd))) }
+    {
+        let fd = again::open_dir(&self.calls, &dir.fd, name.as_str().as_bytes())?;
+        Ok(Handle::folder(fd))
+    }
+
+    fn open_file(
+        &self,
+        dir: &Handle<C>,
+        name: &Name,
+        access: Access,
+    ) -> Result<Handle<C>, DiskError>
+        requires { IsLawfulName name.now }
+        ensures { IfOk result (λ file. WasOpened C.did (C.number dir.now.fd) name.now access (C.stamp file.fd)) }
+    {
+        let mut page = page_of(self.alloc, &self.path)?;
+        let told = self.open_at(&mut page, dir, name, access);
+        self.path.keep(page);
+        told
+    }
+
+    /// `pread`, or none where no file has a byte.
+    fn read_at(&self, file: &Handle<C>, buffer: &mut [u8], offset: u64) -> Result<usize, DiskError>
+        ensures within { IfOk result (λ n. n ≤ length buffer.new) }
+        ensures done { IfOk result (λ n. ReadsNone offset n ⊎ C.did (Read (C.stamp file.now.fd) offset (take n buffer.new))) }
+    {
+        if offset >= END {
+            return Ok(0);
+        }
+        again::read_at(&self.calls, &file.fd, buffer, offset)
+    }
+
+    fn list(&self, dir: &Handle<C>) -> Result<Vec<Name>, DiskError>
+        ensures { IfOk result (λ names. ListsAll C.begins C.advances (C.stamp dir.now.fd) names.items) }
+    {
+        let mut room = self.names_room()?;
+        let told = self.list_open(&mut room, &dir.fd);
+        self.names.keep(room);
+        told
+    }
+
+    fn sync(&self, handle: &Handle<C>) -> Result<(), DiskError>
+        ensures { OnOk result (C.did (Synced (C.stamp handle.now.fd))) }
+    {
+        again::sync(&self.calls, &handle.fd)
+    }
+
+    fn set(&self, handle: &Handle<C>, change: Change) -> Result<(), DiskError>
+        ensures { OnOk result (IsNothing change ⊎ C.did (Set (C.stamp handle.now.fd) change)) }
+    {
+        self.set_open(handle, change)
+    }
+
+    fn set_at(&self, dir: &Handle<C>, name: &Name, change: Change) -> Result<(), DiskError>
+        requires { IsLawfulName name.now }
+        ensures { OnOk result (IsNothing change ⊎ WasSetAt C.did (C.number dir.now.fd) name.now change) }
+    {
+        let mut page = page_of(self.alloc, &self.path)?;
+        let told = self.set_named(&mut page, dir, name, change);
+        self.path.keep(page);
+        told
+    }
+
+    /// `pwrite`.
+    fn write_at(&mut self, file: &Handle<C>, bytes: &[u8], offset: u64) -> Result<usize, DiskError>
+        ensures within { IfOk result (λ n. n ≤ length bytes.now) }
+        ensures done { IfOk result (λ n. C.did (Wrote (C.stamp file.now.fd) offset bytes.now n)) }
+    {
+        if offset >= END {
+            return Err(DiskError::Failed(EFBIG));
+        }
+        again::write_at(&self.calls, &file.fd, bytes, offset)
+    }
+
+    /// `ftruncate`.
+    fn set_len(&mut self, file: &Handle<C>, size: u64) -> Result<(), DiskError>
+        ensures { OnOk result (C.did (SetLen (C.stamp file.now.fd) size)) }
+    {
+        if size >= END {
+            return Err(DiskError::Failed(EFBIG));
+        }
+        again::set_len(&self.calls, &file.fd, size)
+    }
+
+    fn make_file(
+        &mut self,
+        dir: &Handle<C>,
+        name: &Name,
+        permissions: Option<u32>,
+    ) -> Result<Handle<C>, DiskError>
+        requires { IsLawfulName name.now }
+        ensures made { IfOk result (λ file. C.did (MadeFile (way_to (C.number dir.now.fd) ++ name.now) (bits_of 438 permissions) (C.stamp file.fd))) }
+        ensures bits { IfOk result (λ file. HasBits C.did (C.mask self.old.calls) (C.stamp file.fd) permissions) }
+    {
+        let mut page = page_of(self.alloc, &self.path)?;
+        let told = self.make_file_at(&mut page, dir, name, permissions);
+        self.path.keep(page);
+        told
+    }
+
+    fn make_dir(
+        &mut self,
+        dir: &Handle<C>,
+        name: &Name,
+        permissions: Option<u32>,
+    ) -> Result<(), DiskError>
+        requires { IsLawfulName name.now }
+        ensures made { OnOk result (C.did (MadeDir (way_to (C.number dir.now.fd) ++ name.now) (bits_of 511 permissions))) }
+        ensures bits { OnOk result (HasBitsAt C.did (C.mask self.old.calls) (C.stamp dir.now.fd) (C.number dir.now.fd) name.now permissions) }
+    {
+        let mut page = page_of(self.alloc, &self.path)?;
+        let told = self.make_dir_at(&mut page, dir, name, permissions);
+        self.path.keep(page);
+        told
+    }
+
+    fn remove_file(&mut self, dir: &Handle<C>, name: &Name) -> Result<(), DiskError>
+        requires { IsLawfulName name.now }
+        ensures { OnOk result (C.did (RemovedFile (C.stamp dir.now.fd) name.now)) }
+    {
+        self.remove_file_at(dir, name)
+    }
+
+    fn remove_dir(&mut self, dir: &Handle<C>, name: &Name) -> Result<(), DiskError>
+        requires { IsLawfulName name.now }
+        ensures { OnOk result (C.did (RemovedDir (C.stamp dir.now.fd) name.now)) }
+    {
+        self.remove_dir_at(dir, name)
+    }
+
+    fn rename(
+        &mut self,
+        from_dir: &Handle<C>,
+        from: &Name,
+        to_dir: &Handle<C>,
+        to: &Name,
+    ) -> Result<(), DiskError>
+        requires from { IsLawfulName from.now }
+        requires to { IsLawfulName to.now }
+        ensures { OnOk result (C.did (Renamed (way_to (C.number from_dir.now.fd) ++ from.now) (way_to (C.number to_dir.now.fd) ++ to.now))) }
+    {
+        let mut old = page_of(self.alloc, &self.path)?;
+        let mut new = page_of(self.alloc, &self.other)?;
+        let told = self.rename_at((&mut old, &mut new), from_dir, from, to_dir, to);
+        self.path.keep(old);
+        self.other.keep(new);
+        told
+    }
+}

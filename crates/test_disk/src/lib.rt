@@ -1,0 +1,15 @@
+//! The calls of a real folder, one by one, and what they leave outside it.
+#![tactic(auto)]
+
+#[cfg(test)]
+mod asking;
+#[cfg(test)]
+mod calls;
+#[cfg(test)]
+mod links;
+#[cfg(test)]
+mod setting;
+#[cfg(test)]
+mod telling;
+#[cfg(test)]
+mod words;

@@ -1,0 +1,131 @@
+//! What is asked as words, and answers as text.
+
+ghost use Rattle.std.specs.Prelude.{IfOk, IfSome};
+ghost use Rattle.disk.specs.Names.{IsLawfulName};
+
+use backing::{Kind, NewTime, Time};
+use disk::{Change, DiskError, Stat, is_lawful};
+use paths::Name;
+use std::alloc::{AllocError, Global};
+
+/// So many words may be asked.
+pub const WORDS: usize = 6;
+
+/// The words of the text, with nothing behind the last one.
+pub fn words_of(text: &str) -> [&str; WORDS] {
+    let mut words = [""; WORDS];
+    let mut place = 0usize;
+    for word in text.split(' ') {
+        if place < WORDS {
+            words[place] = word;
+            place += 1;
+        }
+    }
+    words
+}
+
+pub fn number(text: &str) -> u64 {
+    text.parse::<u64>().unwrap_or(0)
+}
+
+/// The octal number, or none at `-`.
+pub fn octal(text: &str) -> Option<u32> {
+    u32::from_str_radix(text, 8).ok()
+}
+
+fn owner(text: &str) -> Option<u32> {
+    text.parse::<u32>().ok()
+}
+
+/// `now`, `-`, or seconds that may be below 0, a full stop and nanoseconds.
+fn time(text: &str) -> Option<NewTime> {
+    if text == "now" {
+        return Some(NewTime::Now);
+    }
+    let (seconds, nanos) = text.split_once('.')?;
+    let seconds = seconds.parse::<i64>().ok()?;
+    let nanos = nanos.parse::<u32>().ok()?;
+    Some(NewTime::At(Time {
+        seconds: seconds.cast_unsigned(),
+        nanos,
+    }))
+}
+
+/// What the words behind the first ones say is to be set.
+pub fn change_of(what: &str, first: &str, second: &str) -> Change {
+    match what {
+        "owner" => Change::Owner {
+            uid: owner(first),
+            gid: owner(second),
+        },
+        "times" => Change::Times {
+            accessed: time(first),
+            modified: time(second),
+        },
+        _ => Change::Permissions(octal(first).unwrap_or(0)),
+    }
+}
+
+/// The name, if a folder can hold it.
+pub fn name_of(alloc: Global, text: &str) -> Result<Option<Name>, AllocError>
+    ensures { IfOk result (λ found. IfSome found (λ name. IsLawfulName name)) }
+{
+    let name = Name::copy_of(alloc, text)?;
+    if is_lawful(name.as_str().as_bytes()) {
+        Ok(Some(name))
+    } else {
+        Ok(None)
+    }
+}
+
+pub fn error_text(alloc: Global, error: DiskError) -> Result<String, AllocError> {
+    match error {
+        DiskError::Failed(errno) => format!(in alloc; "failed {errno}"),
+        other => format!(in alloc; "{other:?}"),
+    }
+}
+
+/// `done`, or why not.
+pub fn done_text(alloc: Global, told: Result<(), DiskError>) -> Result<String, AllocError> {
+    match told {
+        Ok(()) => String::from_str(alloc, "done"),
+        Err(error) => error_text(alloc, error),
+    }
+}
+
+/// The kind, the size, the permission bits and the number of names.
+pub fn stat_text(alloc: Global, told: Result<Stat, DiskError>) -> Result<String, AllocError> {
+    match told {
+        Ok(stat) => {
+            let kind = match stat.kind {
+                Some(Kind::Folder) => "folder",
+                Some(Kind::File) => "file",
+                None => "other",
+            };
+            let details = stat.details;
+            match stat.kind {
+                None => String::from_str(alloc, kind),
+                Some(_) => { format!(in alloc; "{kind} {} {:o}", stat.size, details.permissions) }
+            }
+        }
+        Err(error) => error_text(alloc, error),
+    }
+}
+
+/// When it was last read and last changed, as `time` takes it.
+pub fn times_text(alloc: Global, told: Result<Stat, DiskError>) -> Result<String, AllocError> {
+    match told {
+        Ok(stat) => {
+            let read = stat.details.accessed;
+            let changed = stat.details.modified;
+            format!(in alloc;
+                "{}.{} {}.{}",
+                read.seconds.cast_signed(),
+                read.nanos,
+                changed.seconds.cast_signed(),
+                changed.nanos
+            )
+        }
+        Err(error) => error_text(alloc, error),
+    }
+}
