@@ -1,6 +1,9 @@
 pub mod Calls
 pub mod Changes
 pub mod Errors
+pub mod Files
+pub mod Held
+pub mod Keys
 pub mod Listings
 pub mod Pages
 pub mod Places

@@ -7,6 +7,7 @@ ghost use Rattle.linux_disk.specs.Places.{IsPlace, IsSafe, way_to};
 
 use crate::page::Page;
 use disk::{Access, Change, DiskError, Stat};
+use std::alloc::AllocError;
 
 /// A system. What is handed to it is one lawful name below a folder that is open, and nothing else. Each call is made once: one that a signal
 /// ended (EINTR) has failed.
@@ -43,6 +44,9 @@ pub trait SystemCalls {
 
     /// Which permission bits the process's mask takes of what is made.
     ghost mask: { Self → ℕ };
+
+    /// The same system once more, for another thread. No stamp comes twice.
+    fn share(&self) -> Result<Self, AllocError>;
 
     /// The number under which it is open.
     fn number(&self, fd: &Self::Fd) -> u32

@@ -7,7 +7,9 @@ use crate::page::Page;
 use crate::places::{place, push_number};
 use crate::start_error::StartError;
 use disk::{DiskError, is_lawful};
-use errno::{EINVAL, ENAMETOOLONG};
+use errno::{EINVAL, ENAMETOOLONG, ENOMEM};
+use std::alloc::{AllocError, Global};
+use std::sync::Arc;
 
 /// How many links to the folder of descriptors stand before the place: with the one of the place they are 40, and Linux follows no
 /// further one.
@@ -29,18 +31,18 @@ const OWN_FILE: &[u8] = b"status";
 pub struct Guard<C: SystemCalls> {
     pub text: Page,
     /// The folder of descriptors, to which each link of the text leads.
-    descriptors: C::Fd,
+    descriptors: Arc<C::Fd>,
     ghost entered: { ∥ C.entered ∥₁ },
     ghost guards: { ∥ C.guards text ∥₁ },
 }
 
 impl<C: SystemCalls> Guard<C> {
     /// Makes the folder of descriptors the process's working directory, and shows that the system follows no link behind the guard.
-    pub fn new(calls: &C) -> Result<Guard<C>, StartError> {
+    pub fn new(calls: &C, alloc: Global) -> Result<Guard<C>, StartError> {
         if let Err(error) = calls.enter_descriptors() {
             return Err(StartError::NoDescriptors(error));
         }
-        match Guard::entered(calls) {
+        match Guard::entered(calls, alloc) {
             Ok(Some(guard)) => Ok(guard),
             Ok(None) => Err(StartError::FollowsLinks),
             Err(error) => Err(StartError::NoDescriptors(error)),
@@ -48,7 +50,7 @@ impl<C: SystemCalls> Guard<C> {
     }
 
     /// The guard, if the system follows no link behind it.
-    fn entered(calls: &C) -> Result<Option<Guard<C>>, DiskError>
+    fn entered(calls: &C, alloc: Global) -> Result<Option<Guard<C>>, DiskError>
         requires { C.entered }
     {
         let descriptors = calls.open_top(HERE)?;
@@ -64,7 +66,19 @@ impl<C: SystemCalls> Guard<C> {
         if !calls.refuses_links(&own, &text, &to_link, &to_file) {
             return Ok(None);
         }
-        Ok(Some(Guard { text, descriptors }))
+        match Arc::new(alloc, descriptors) {
+            Ok(descriptors) => Ok(Some(Guard { text, descriptors })),
+            Err(_) => Err(DiskError::Failed(ENOMEM)),
+        }
+    }
+
+    /// The same guard once more.
+    pub(crate) fn share(&self) -> Result<Guard<C>, AllocError> {
+        let descriptors = Arc::try_clone(&self.descriptors)?;
+        Ok(Guard {
+            text: self.text.copy(),
+            descriptors,
+        })
     }
 }
 

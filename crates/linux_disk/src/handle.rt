@@ -1,9 +1,11 @@
 //! What is open.
 
 ghost use Rattle.std.specs.Prelude.{◌≡◌, IsTrue};
+ghost use Rattle.linux_disk.specs.Held.{held_value};
 ghost use Rattle.linux_disk.specs.Places.{WasPrivate};
 
 use crate::calls::SystemCalls;
+use crate::held::Held;
 use disk::FileId;
 use std::cell::Cell;
 use std::marker::PhantomData;
@@ -27,18 +29,18 @@ pub(crate) struct Seen<C: SystemCalls> {
 /// A file or folder that is open for as long as the value is there. No value ever comes back.
 #[derive(Drop)]
 pub struct Handle<C: SystemCalls> {
-    pub(crate) fd: C::Fd,
+    pub(crate) held: Held<C::Fd>,
     pub(crate) is_folder: bool,
     pub(crate) seen: Cell<Option<Seen<C>>>,
 }
 
 impl<C: SystemCalls> Handle<C> {
     /// A file.
-    pub(crate) fn file(fd: C::Fd) -> Handle<C>
-        ensures { result.fd ≡ fd }
+    pub(crate) fn file(held: Held<C::Fd>) -> Handle<C>
+        ensures { result.held ≡ held }
     {
         Handle {
-            fd,
+            held,
             is_folder: false,
             seen: Cell::new(None),
         }
@@ -46,12 +48,19 @@ impl<C: SystemCalls> Handle<C> {
 
     /// A folder of which nothing was seen yet.
     pub(crate) fn folder(fd: C::Fd) -> Handle<C>
-        ensures { result.fd ≡ fd }
+        ensures { held_value result.held ≡ fd }
     {
         Handle {
-            fd,
+            held: Held::Own(fd),
             is_folder: true,
             seen: Cell::new(None),
         }
+    }
+
+    /// What is open.
+    pub(crate) fn fd(&self) -> &C::Fd
+        ensures { result.now ≡ held_value self.now.held }
+    {
+        self.held.get()
     }
 }

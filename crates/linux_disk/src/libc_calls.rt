@@ -1,14 +1,14 @@
 //! Linux's calls, through the C library.
 
 ghost use Rattle.std.specs.Prelude.{◌≡◌, ◌<◌, ◌≤◌, ◌^◌, pos, IfOk, length};
-ghost use Rattle.std.specs.Fd.{owned_raw_fd};
 
 use crate::calls::SystemCalls;
 use crate::changes::{owner_number, time_words};
 use crate::errors::failure_of;
 use crate::mask::read_mask;
+use crate::open_fd::{OpenFd, Rewound};
 use crate::page::Page;
-use crate::returned::{count_of, expect_done, owned};
+use crate::returned::{count_of, expect_done, last_failure, owned};
 use crate::stat::{PERMISSION_BITS, stat_of};
 use crate::unfilled::new_statx;
 use backing::NewTime;
@@ -22,19 +22,6 @@ use std::sync::atomic::{AtomicU64, Ordering};
 
 /// The folder of the process's descriptors.
 const DESCRIPTORS: &[u8] = b"/proc/self/fd";
-
-/// A file or folder that is open.
-#[derive(Drop)]
-pub struct OpenFd {
-    fd: OwnedFd,
-    number: u32,
-    stamp: u64,
-    ghost number_is: { owned_raw_fd fd ≡ pos number },
-}
-
-/// The descriptor itself keeps how far its names were read.
-#[derive(Drop)]
-pub struct Rewound;
 
 /// Linux. Each call is one of the system's, but where it says more.
 #[derive(Drop)]
@@ -54,15 +41,6 @@ impl LibC {
             stamps: Arc::new(alloc, AtomicU64::new(0))?,
             user: libc::geteuid(),
             mask: read_mask(),
-        })
-    }
-
-    /// The same once more: no stamp comes twice.
-    pub fn share(&self) -> Result<LibC, AllocError> {
-        Ok(LibC {
-            stamps: Arc::try_clone(&self.stamps)?,
-            user: self.user,
-            mask: self.mask,
         })
     }
 
@@ -103,6 +81,14 @@ impl SystemCalls for LibC {
     ghost user = { λ s. s.user };
 
     ghost mask = { λ s. s.mask };
+
+    fn share(&self) -> Result<LibC, AllocError> {
+        Ok(LibC {
+            stamps: Arc::try_clone(&self.stamps)?,
+            user: self.user,
+            mask: self.mask,
+        })
+    }
 
     fn number(&self, fd: &OpenFd) -> u32 {
         fd.number
@@ -250,7 +236,11 @@ impl SystemCalls for LibC {
 
     /// `lseek`.
     fn rewind(&self, dir: &OpenFd) -> Result<Rewound, DiskError> {
-        if libc::lseek(dir.fd.as_raw_fd(), 0, libc::SEEK_SET) == 0 {
+        let at = libc::lseek(dir.fd.as_raw_fd(), 0, libc::SEEK_SET);
+        if at < 0 {
+            return Err(last_failure());
+        }
+        if at == 0 {
             Ok(Rewound)
         } else {
             Err(DiskError::Failed(EIO))

@@ -2,11 +2,13 @@
 
 ghost use Rattle.std.specs.Prelude.{◌≡◌};
 
+use crate::again;
 use crate::calls::SystemCalls;
 use crate::guard::Guard;
 use crate::page::Page;
 use crate::spare::Spare;
 use crate::start_error::StartError;
+use crate::store::FileStore;
 use disk::DiskError;
 use errno::{ENOENT, ENOMEM};
 use std::alloc::{AllocError, Global};
@@ -51,12 +53,13 @@ impl Counts {
 
 /// A folder of Linux, and all that is below it. The process's working directory is the folder of its descriptors.
 #[derive(Drop)]
-pub struct Linux<C: SystemCalls + Drop> {
+pub struct Linux<C: SystemCalls + Drop, S: FileStore<Fd = C::Fd> + Drop> {
     pub(crate) calls: C,
     pub(crate) alloc: Global,
     pub(crate) root: C::Fd,
     pub(crate) guard: Guard<C>,
     pub(crate) counts: Arc<Counts>,
+    pub(crate) store: S,
     /// For the texts of one call and the other.
     pub(crate) path: Spare<Box<Page>>,
     pub(crate) other: Spare<Box<Page>>,
@@ -64,12 +67,12 @@ pub struct Linux<C: SystemCalls + Drop> {
     pub(crate) names: Spare<Vec<u8>>,
 }
 
-impl<C: SystemCalls + Drop> Linux<C> {
+impl<C: SystemCalls + Drop, S: FileStore<Fd = C::Fd> + Drop> Linux<C, S> {
     /// The folder at that path, whose links are followed this once. From then on the process's working directory is the folder of its
     /// descriptors.
-    pub fn open(calls: C, alloc: Global, path: &str) -> Result<Linux<C>, StartError> {
+    pub fn open(calls: C, store: S, alloc: Global, path: &str) -> Result<Linux<C, S>, StartError> {
         let root = open_top(&calls, alloc, path)?;
-        let guard = Guard::new(&calls)?;
+        let guard = Guard::new(&calls, alloc)?;
         let Ok(counts) = Arc::new(alloc, Counts::new()) else {
             return Err(StartError::NoMemory);
         };
@@ -79,10 +82,38 @@ impl<C: SystemCalls + Drop> Linux<C> {
             root,
             guard,
             counts,
+            store,
             path: Spare::new(),
             other: Spare::new(),
             names: Spare::new(),
         })
+    }
+
+    /// The same folder for another thread, which shares the files that are kept open and hears of the names that go or move.
+    pub fn share(&self) -> Result<Linux<C, S>, DiskError> {
+        let root = again::open_again(&self.calls, &self.root)?;
+        match self.share_parts() {
+            Ok((calls, store, counts, guard)) => Ok(Linux {
+                calls,
+                alloc: self.alloc,
+                root,
+                guard,
+                counts,
+                store,
+                path: Spare::new(),
+                other: Spare::new(),
+                names: Spare::new(),
+            }),
+            Err(_) => Err(DiskError::Failed(ENOMEM)),
+        }
+    }
+
+    fn share_parts(&self) -> Result<(C, S, Arc<Counts>, Guard<C>), AllocError> {
+        let calls = self.calls.share()?;
+        let store = self.store.share()?;
+        let counts = Arc::try_clone(&self.counts)?;
+        let guard = self.guard.share()?;
+        Ok((calls, store, counts, guard))
     }
 }
 

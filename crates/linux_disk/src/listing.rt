@@ -5,6 +5,7 @@ ghost use Rattle.linux_disk.specs.Listings.{AddsName, AddsPart, ListsAll, ReadsN
 
 use crate::calls::SystemCalls;
 use crate::linux::Linux;
+use crate::store::FileStore;
 use disk::{DiskError, is_lawful};
 use errno::{EIO, ENOMEM};
 use paths::Name;
@@ -14,7 +15,7 @@ use std::str;
 /// So many bytes of names are asked for at once.
 const NAMES_ROOM: usize = 32_768;
 
-impl<C: SystemCalls + Drop> Linux<C> {
+impl<C: SystemCalls + Drop, S: FileStore<Fd = C::Fd> + Drop> Linux<C, S> {
     /// The names that are text, but `.` and `..`: `lseek`, and `getdents` until there is none.
     pub(crate) fn list_open(
         &self,

@@ -2,6 +2,7 @@
 
 ghost use Rattle.std.specs.Prelude.{◌≡◌, ◌++◌, IfOk, OnOk};
 ghost use Rattle.disk.specs.Names.{IsLawfulName};
+ghost use Rattle.linux_disk.specs.Held.{held_value};
 ghost use Rattle.linux_disk.specs.Calls.{MadeFile, MadeDir, RemovedFile, RemovedDir, Renamed};
 ghost use Rattle.linux_disk.specs.Places.{way_to};
 ghost use Rattle.linux_disk.specs.Steps.{HasBits, HasBitsAt, WasCompleted, bits_of};
@@ -13,6 +14,7 @@ use crate::linux::Linux;
 use crate::page::Page;
 use crate::places::place;
 use crate::stat::PERMISSION_BITS;
+use crate::store::FileStore;
 use backing::Kind;
 use disk::{Change, DiskError};
 use errno::EIO;
@@ -44,29 +46,29 @@ fn with_names(told: Result<(), DiskError>) -> Result<(), DiskError>
 }
 
 /// Whether the system has done it, or may have.
-fn may_be_done(told: &Result<(), DiskError>) -> bool {
+pub(crate) fn may_be_done(told: &Result<(), DiskError>) -> bool {
     matches!(told, Ok(()) | Err(DiskError::Failed(_)))
 }
 
-impl<C: SystemCalls + Drop> Linux<C> {
+impl<C: SystemCalls + Drop, S: FileStore<Fd = C::Fd> + Drop> Linux<C, S> {
     /// Makes an empty file: `open` with O_EXCL, and `fchmod` where the mask takes some of the bits.
-    pub(crate) fn make_file_at(
+    pub(crate) fn make_new(
         &self,
         page: &mut Page,
         dir: &Handle<C>,
         name: &Name,
         permissions: Option<u32>,
-    ) -> Result<Handle<C>, DiskError>
+    ) -> Result<C::Fd, DiskError>
         requires { IsLawfulName name.now }
-        ensures made { IfOk result (λ file. C.did (MadeFile (way_to (C.number dir.now.fd) ++ name.now) (bits_of 438 permissions) (C.stamp file.fd))) }
-        ensures bits { IfOk result (λ file. HasBits C.did (C.mask self.now.calls) (C.stamp file.fd) permissions) }
+        ensures made { IfOk result (λ fd. C.did (MadeFile (way_to (C.number (held_value dir.now.held)) ++ name.now) (bits_of 438 permissions) (C.stamp fd))) }
+        ensures bits { IfOk result (λ fd. HasBits C.did (C.mask self.now.calls) (C.stamp fd) permissions) }
     {
-        let number = self.calls.number(&dir.fd);
+        let number = self.calls.number(dir.fd());
         place(page, b"", number, name.as_str().as_bytes())?;
         let bits = bits_of(FILE_BITS, permissions);
-        let fd = self.calls.make_file(&dir.fd, page, bits)?;
+        let fd = self.calls.make_file(dir.fd(), page, bits)?;
         self.complete(&fd, permissions)?;
-        Ok(Handle::file(fd))
+        Ok(fd)
     }
 
     /// The file has all of the bits.
@@ -91,13 +93,13 @@ impl<C: SystemCalls + Drop> Linux<C> {
         permissions: Option<u32>,
     ) -> Result<(), DiskError>
         requires { IsLawfulName name.now }
-        ensures made { OnOk result (C.did (MadeDir (way_to (C.number dir.now.fd) ++ name.now) (bits_of 511 permissions))) }
-        ensures bits { OnOk result (HasBitsAt C.did (C.mask self.now.calls) (C.stamp dir.now.fd) (C.number dir.now.fd) name.now permissions) }
+        ensures made { OnOk result (C.did (MadeDir (way_to (C.number (held_value dir.now.held)) ++ name.now) (bits_of 511 permissions))) }
+        ensures bits { OnOk result (HasBitsAt C.did (C.mask self.now.calls) (C.stamp (held_value dir.now.held)) (C.number (held_value dir.now.held)) name.now permissions) }
     {
-        let number = self.calls.number(&dir.fd);
+        let number = self.calls.number(dir.fd());
         place(page, b"", number, name.as_str().as_bytes())?;
         let bits = bits_of(FOLDER_BITS, permissions);
-        self.calls.make_dir(&dir.fd, page, bits)?;
+        self.calls.make_dir(dir.fd(), page, bits)?;
         match permissions {
             None => Ok(()),
             Some(wanted) => {
@@ -119,7 +121,7 @@ impl<C: SystemCalls + Drop> Linux<C> {
         wanted: u32,
     ) -> Result<(), DiskError>
         requires { IsLawfulName name.now }
-        ensures { OnOk result (WasCompleted C.did (C.stamp dir.now.fd) (C.number dir.now.fd) name.now wanted) }
+        ensures { OnOk result (WasCompleted C.did (C.stamp (held_value dir.now.held)) (C.number (held_value dir.now.held)) name.now wanted) }
     {
         let stat = self.look_at(page, dir, name)?;
         match stat.kind {
@@ -133,11 +135,11 @@ impl<C: SystemCalls + Drop> Linux<C> {
     }
 
     /// Removes what is no folder: `unlinkat`.
-    pub(crate) fn remove_file_at(&self, dir: &Handle<C>, name: &Name) -> Result<(), DiskError>
+    pub(crate) fn unlink(&self, dir: &Handle<C>, name: &Name) -> Result<(), DiskError>
         requires { IsLawfulName name.now }
-        ensures { OnOk result (C.did (RemovedFile (C.stamp dir.now.fd) name.now)) }
+        ensures { OnOk result (C.did (RemovedFile (C.stamp (held_value dir.now.held)) name.now)) }
     {
-        let told = self.calls.remove_file(&dir.fd, name.as_str().as_bytes());
+        let told = self.calls.remove_file(dir.fd(), name.as_str().as_bytes());
         if may_be_done(&told) {
             self.counts.note_change();
         }
@@ -147,9 +149,9 @@ impl<C: SystemCalls + Drop> Linux<C> {
     /// Removes an empty folder: `unlinkat`.
     pub(crate) fn remove_dir_at(&self, dir: &Handle<C>, name: &Name) -> Result<(), DiskError>
         requires { IsLawfulName name.now }
-        ensures { OnOk result (C.did (RemovedDir (C.stamp dir.now.fd) name.now)) }
+        ensures { OnOk result (C.did (RemovedDir (C.stamp (held_value dir.now.held)) name.now)) }
     {
-        let told = self.calls.remove_dir(&dir.fd, name.as_str().as_bytes());
+        let told = self.calls.remove_dir(dir.fd(), name.as_str().as_bytes());
         if may_be_done(&told) {
             self.counts.note_change();
         }
@@ -157,7 +159,7 @@ impl<C: SystemCalls + Drop> Linux<C> {
     }
 
     /// Gives what stands at the name another one: `rename`.
-    pub(crate) fn rename_at(
+    pub(crate) fn move_name(
         &self,
         pages: (&mut Page, &mut Page),
         from_dir: &Handle<C>,
@@ -167,14 +169,14 @@ impl<C: SystemCalls + Drop> Linux<C> {
     ) -> Result<(), DiskError>
         requires from { IsLawfulName from.now }
         requires to { IsLawfulName to.now }
-        ensures { OnOk result (C.did (Renamed (way_to (C.number from_dir.now.fd) ++ from.now) (way_to (C.number to_dir.now.fd) ++ to.now))) }
+        ensures { OnOk result (C.did (Renamed (way_to (C.number (held_value from_dir.now.held)) ++ from.now) (way_to (C.number (held_value to_dir.now.held)) ++ to.now))) }
     {
         let (old, new) = pages;
-        let number = self.calls.number(&from_dir.fd);
+        let number = self.calls.number(from_dir.fd());
         place(old, b"", number, from.as_str().as_bytes())?;
-        let number = self.calls.number(&to_dir.fd);
+        let number = self.calls.number(to_dir.fd());
         place(new, b"", number, to.as_str().as_bytes())?;
-        let told = self.calls.rename(&from_dir.fd, old, &to_dir.fd, new);
+        let told = self.calls.rename(from_dir.fd(), old, to_dir.fd(), new);
         if may_be_done(&told) {
             self.counts.note_change();
         }

@@ -2,6 +2,7 @@
 
 ghost use Rattle.std.specs.Prelude.{◌≡◌, ◌⊎◌, IsTrue, IfOk, OnOk};
 ghost use Rattle.disk.specs.Names.{IsLawfulName};
+ghost use Rattle.linux_disk.specs.Held.{held_value};
 ghost use Rattle.linux_disk.specs.Calls.{Looked, Set};
 ghost use Rattle.linux_disk.specs.Steps.{IsNothing, WasOpened, WasSetAt};
 
@@ -11,6 +12,7 @@ use crate::handle::Handle;
 use crate::linux::Linux;
 use crate::page::Page;
 use crate::places::name_alone;
+use crate::store::FileStore;
 use disk::{Access, Change, DiskError, Stat};
 use paths::Name;
 
@@ -33,7 +35,7 @@ fn is_about_rights(change: Change) -> bool {
     }
 }
 
-impl<C: SystemCalls + Drop> Linux<C> {
+impl<C: SystemCalls + Drop, S: FileStore<Fd = C::Fd> + Drop> Linux<C, S> {
     /// What stands at the name: `statx`.
     pub(crate) fn look_at(
         &self,
@@ -42,36 +44,35 @@ impl<C: SystemCalls + Drop> Linux<C> {
         name: &Name,
     ) -> Result<Stat, DiskError>
         requires { IsLawfulName name.now }
-        ensures { IfOk result (λ stat. C.did (Looked (C.stamp dir.now.fd) name.now stat)) }
+        ensures { IfOk result (λ stat. C.did (Looked (C.stamp (held_value dir.now.held)) name.now stat)) }
     {
         name_alone(page, name.as_str().as_bytes())?;
-        self.calls.look(&dir.fd, page)
+        self.calls.look(dir.fd(), page)
     }
 
     /// Opens the file at the name: `open`, and `statx` where the folder has not been seen yet.
-    pub(crate) fn open_at(
+    pub(crate) fn open_new(
         &self,
         page: &mut Page,
         dir: &Handle<C>,
         name: &Name,
         access: Access,
-    ) -> Result<Handle<C>, DiskError>
+    ) -> Result<C::Fd, DiskError>
         requires { IsLawfulName name.now }
-        ensures { IfOk result (λ file. WasOpened C.did (C.number dir.now.fd) name.now access (C.stamp file.fd)) }
+        ensures { IfOk result (λ fd. WasOpened C.did (C.number (held_value dir.now.held)) name.now access (C.stamp fd)) }
     {
         self.safe_place(page, dir, name)?;
-        let fd = again::open_file(&self.calls, &dir.fd, page, access)?;
-        Ok(Handle::file(fd))
+        again::open_file(&self.calls, dir.fd(), page, access)
     }
 
     /// Sets it of what is open: `fchmod`, `fchown` or `futimens`.
     pub(crate) fn set_open(&self, handle: &Handle<C>, change: Change) -> Result<(), DiskError>
-        ensures { OnOk result (IsNothing change ⊎ C.did (Set (C.stamp handle.now.fd) change)) }
+        ensures { OnOk result (IsNothing change ⊎ C.did (Set (C.stamp (held_value handle.now.held)) change)) }
     {
         if is_nothing(change) {
             return Ok(());
         }
-        let told = again::set(&self.calls, &handle.fd, change);
+        let told = again::set(&self.calls, handle.fd(), change);
         if handle.is_folder && is_about_rights(change) {
             self.counts.note_rights();
         }
@@ -87,13 +88,13 @@ impl<C: SystemCalls + Drop> Linux<C> {
         change: Change,
     ) -> Result<(), DiskError>
         requires { IsLawfulName name.now }
-        ensures { OnOk result (IsNothing change ⊎ WasSetAt C.did (C.number dir.now.fd) name.now change) }
+        ensures { OnOk result (IsNothing change ⊎ WasSetAt C.did (C.number (held_value dir.now.held)) name.now change) }
     {
         if is_nothing(change) {
             return Ok(());
         }
         self.safe_place(page, dir, name)?;
-        let told = again::set_at(&self.calls, &dir.fd, page, change);
+        let told = again::set_at(&self.calls, dir.fd(), page, change);
         if is_about_rights(change) {
             self.counts.note_rights();
         }

@@ -38,6 +38,16 @@ impl Page {
         }
     }
 
+    /// The same text once more.
+    pub fn copy(&self) -> Page
+        ensures { result ≡ self.now }
+    {
+        Page {
+            bytes: self.bytes,
+            len: self.len,
+        }
+    }
+
     /// Takes the text away.
     pub fn clear(&mut self)
         ensures { self.new ≡ [] }

@@ -2,6 +2,7 @@
 
 ghost use Rattle.std.specs.Prelude.{◌≡◌, ◌↔◌, IsTrue, IfOk, OnOk};
 ghost use Rattle.disk.specs.Names.{IsLawfulName};
+ghost use Rattle.linux_disk.specs.Held.{held_value};
 ghost use Rattle.linux_disk.specs.Calls.{Inspected};
 ghost use Rattle.linux_disk.specs.Places.{IsPrivate, IsSafe, WasPrivate};
 ghost use Rattle.linux_disk.specs.Steps.{Leads};
@@ -11,6 +12,7 @@ use crate::handle::{Handle, Seen};
 use crate::linux::Linux;
 use crate::page::Page;
 use crate::places::place;
+use crate::store::FileStore;
 use disk::{DiskError, Stat};
 use paths::Name;
 use std::marker::PhantomData;
@@ -40,20 +42,20 @@ fn seen_of<C: SystemCalls>(calls: &C, dir: &C::Fd, stat: &Stat, rights: u64) -> 
     }
 }
 
-impl<C: SystemCalls + Drop> Linux<C> {
+impl<C: SystemCalls + Drop, S: FileStore<Fd = C::Fd> + Drop> Linux<C, S> {
     /// What is open, which is kept of a folder.
     pub(crate) fn inspect_open(
         &self,
         page: &mut Page,
         handle: &Handle<C>,
     ) -> Result<Stat, DiskError>
-        ensures { IfOk result (λ stat. C.did (Inspected (C.stamp handle.now.fd) stat)) }
+        ensures { IfOk result (λ stat. C.did (Inspected (C.stamp (held_value handle.now.held)) stat)) }
     {
         let rights = self.counts.rights();
         page.clear();
-        let stat = self.calls.inspect(&handle.fd, page)?;
+        let stat = self.calls.inspect(handle.fd(), page)?;
         if handle.is_folder {
-            let seen = seen_of(&self.calls, &handle.fd, &stat, rights);
+            let seen = seen_of(&self.calls, handle.fd(), &stat, rights);
             handle.seen.set(Some(seen));
         }
         Ok(stat)
@@ -62,7 +64,7 @@ impl<C: SystemCalls + Drop> Linux<C> {
     /// Whether nobody else may change the names in the folder: as it was seen, or by a look if nothing of it was seen yet or the rights of
     /// a folder were set since.
     fn is_private(&self, page: &mut Page, dir: &Handle<C>) -> Result<bool, DiskError>
-        ensures { IfOk result (λ safe. IsTrue safe → ∥ WasPrivate C.did (C.user self.now.calls) (C.stamp dir.now.fd) ∥₁) }
+        ensures { IfOk result (λ safe. IsTrue safe → ∥ WasPrivate C.did (C.user self.now.calls) (C.stamp (held_value dir.now.held)) ∥₁) }
     {
         if let Some(seen) = dir.seen.replace(None) {
             let safe = seen.is_private;
@@ -77,10 +79,10 @@ impl<C: SystemCalls + Drop> Linux<C> {
 
     /// Whether that was seen of this very folder, and no rights were set since.
     fn is_fresh(&self, dir: &Handle<C>, seen: &Seen<C>) -> bool
-        ensures stamp { IsTrue result → seen.now.stamp ≡ C.stamp dir.now.fd }
+        ensures stamp { IsTrue result → seen.now.stamp ≡ C.stamp (held_value dir.now.held) }
         ensures user { IsTrue result → seen.now.user ≡ C.user self.now.calls }
     {
-        seen.stamp == self.calls.stamp(&dir.fd)
+        seen.stamp == self.calls.stamp(dir.fd())
             && seen.user == self.calls.user()
             && seen.rights == self.counts.rights()
     }
@@ -93,10 +95,10 @@ impl<C: SystemCalls + Drop> Linux<C> {
         name: &Name,
     ) -> Result<(), DiskError>
         requires { IsLawfulName name.now }
-        ensures safe { OnOk result (IsSafe C.guards C.did (C.user self.now.calls) (C.number dir.now.fd) (C.stamp dir.now.fd) page.new) }
-        ensures leads { OnOk result (Leads (C.number dir.now.fd) name.now page.new) }
+        ensures safe { OnOk result (IsSafe C.guards C.did (C.user self.now.calls) (C.number (held_value dir.now.held)) (C.stamp (held_value dir.now.held)) page.new) }
+        ensures leads { OnOk result (Leads (C.number (held_value dir.now.held)) name.now page.new) }
     {
-        let number = self.calls.number(&dir.fd);
+        let number = self.calls.number(dir.fd());
         if self.is_private(page, dir)? {
             place(page, b"", number, name.as_str().as_bytes())
         } else {

@@ -8,7 +8,7 @@ use os::FromRawFd;
 use std::os::fd::OwnedFd;
 
 /// Why the call that was just made failed.
-fn last_failure() -> DiskError {
+pub fn last_failure() -> DiskError {
     failure_of(os::errno())
 }
 

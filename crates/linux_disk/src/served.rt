@@ -1,7 +1,8 @@
 //! A folder of Linux as a system. Which call of Linux's each one is, the function that it calls says.
 
-ghost use Rattle.std.specs.Prelude.{◌≡◌, ◌⊎◌, ◌≤◌, ◌++◌, IfOk, OnOk, length, take};
+ghost use Rattle.std.specs.Prelude.{◌≡◌, ◌⊎◌, ◌≤◌, ◌++◌, false, IfOk, OnOk, length, take};
 ghost use Rattle.disk.specs.Names.{IsLawfulName};
+ghost use Rattle.linux_disk.specs.Held.{held_value};
 ghost use Rattle.linux_disk.specs.Calls.{Done, Looked, Inspected, OpenedAgain, OpenedDir, Read, Wrote, SetLen, Synced, Set, MadeFile, MadeDir, RemovedFile, RemovedDir, Renamed};
 ghost use Rattle.linux_disk.specs.Listings.{ListsAll};
 ghost use Rattle.linux_disk.specs.Places.{way_to};
@@ -11,6 +12,7 @@ use crate::again;
 use crate::calls::SystemCalls;
 use crate::handle::Handle;
 use crate::linux::{Linux, page_of};
+use crate::store::FileStore;
 use disk::{Access, Change, DiskError, Stat, System};
 use errno::EFBIG;
 use paths::Name;
@@ -19,7 +21,7 @@ use std::alloc::Global;
 /// No file of the system has a byte at this place or behind it.
 const END: u64 = 1 << 63;
 
-impl<C: SystemCalls + Drop> System for Linux<C> {
+impl<C: SystemCalls + Drop, S: FileStore<Fd = C::Fd> + Drop> System for Linux<C, S> {
     type Handle = Handle<C>;
 
     fn alloc(&self) -> Global {
@@ -35,12 +37,12 @@ impl<C: SystemCalls + Drop> System for Linux<C> {
     }
 
     fn keeps_files(&self) -> bool {
-        false
+        self.store.keeps()
     }
 
     /// `openat`.
     fn open_root(&self) -> Result<Handle<C>, DiskError>
-        ensures { IfOk result (λ dir. C.did (OpenedAgain (C.stamp self.now.root) (C.stamp dir.fd))) }
+        ensures { IfOk result (λ dir. C.did (OpenedAgain (C.stamp self.now.root) (C.stamp (held_value dir.held)))) }
     {
         let fd = again::open_again(&self.calls, &self.root)?;
         Ok(Handle::folder(fd))
@@ -48,7 +50,7 @@ impl<C: SystemCalls + Drop> System for Linux<C> {
 
     /// `statx`.
     fn inspect(&self, handle: &Handle<C>) -> Result<Stat, DiskError>
-        ensures { IfOk result (λ stat. C.did (Inspected (C.stamp handle.now.fd) stat)) }
+        ensures { IfOk result (λ stat. C.did (Inspected (C.stamp (held_value handle.now.held)) stat)) }
     {
         let mut page = page_of(self.alloc, &self.path)?;
         let told = self.inspect_open(&mut page, handle);
@@ -58,7 +60,7 @@ impl<C: SystemCalls + Drop> System for Linux<C> {
 
     fn look(&self, dir: &Handle<C>, name: &Name) -> Result<Stat, DiskError>
         requires { IsLawfulName name.now }
-        ensures { IfOk result (λ stat. C.did (Looked (C.stamp dir.now.fd) name.now stat)) }
+        ensures { IfOk result (λ stat. C.did (Looked (C.stamp (held_value dir.now.held)) name.now stat)) }
     {
         let mut page = page_of(self.alloc, &self.path)?;
         let told = self.look_at(&mut page, dir, name);
@@ -69,9 +71,9 @@ impl<C: SystemCalls + Drop> System for Linux<C> {
     /// `openat`.
     fn open_dir(&self, dir: &Handle<C>, name: &Name) -> Result<Handle<C>, DiskError>
         requires { IsLawfulName name.now }
-        ensures { IfOk result (λ sub. C.did (OpenedDir (C.stamp dir.now.fd) name.now (C.stamp sub.fd))) }
+        ensures { IfOk result (λ sub. C.did (OpenedDir (C.stamp (held_value dir.now.held)) name.now (C.stamp (held_value sub.held)))) }
     {
-        let fd = again::open_dir(&self.calls, &dir.fd, name.as_str().as_bytes())?;
+        let fd = again::open_dir(&self.calls, dir.fd(), name.as_str().as_bytes())?;
         Ok(Handle::folder(fd))
     }
 
@@ -82,7 +84,7 @@ impl<C: SystemCalls + Drop> System for Linux<C> {
         access: Access,
     ) -> Result<Handle<C>, DiskError>
         requires { IsLawfulName name.now }
-        ensures { IfOk result (λ file. WasOpened C.did (C.number dir.now.fd) name.now access (C.stamp file.fd)) }
+        ensures { S.keeps self.now.store ≡ false → IfOk result (λ file. WasOpened C.did (C.number (held_value dir.now.held)) name.now access (C.stamp (held_value file.held))) }
     {
         let mut page = page_of(self.alloc, &self.path)?;
         let told = self.open_at(&mut page, dir, name, access);
@@ -93,38 +95,38 @@ impl<C: SystemCalls + Drop> System for Linux<C> {
     /// `pread`, or none where no file has a byte.
     fn read_at(&self, file: &Handle<C>, buffer: &mut [u8], offset: u64) -> Result<usize, DiskError>
         ensures within { IfOk result (λ n. n ≤ length buffer.new) }
-        ensures done { IfOk result (λ n. ReadsNone offset n ⊎ C.did (Read (C.stamp file.now.fd) offset (take n buffer.new))) }
+        ensures done { IfOk result (λ n. ReadsNone offset n ⊎ C.did (Read (C.stamp (held_value file.now.held)) offset (take n buffer.new))) }
     {
         if offset >= END {
             return Ok(0);
         }
-        again::read_at(&self.calls, &file.fd, buffer, offset)
+        again::read_at(&self.calls, file.fd(), buffer, offset)
     }
 
     fn list(&self, dir: &Handle<C>) -> Result<Vec<Name>, DiskError>
-        ensures { IfOk result (λ names. ListsAll C.begins C.advances (C.stamp dir.now.fd) names.items) }
+        ensures { IfOk result (λ names. ListsAll C.begins C.advances (C.stamp (held_value dir.now.held)) names.items) }
     {
         let mut room = self.names_room()?;
-        let told = self.list_open(&mut room, &dir.fd);
+        let told = self.list_open(&mut room, dir.fd());
         self.names.keep(room);
         told
     }
 
     fn sync(&self, handle: &Handle<C>) -> Result<(), DiskError>
-        ensures { OnOk result (C.did (Synced (C.stamp handle.now.fd))) }
+        ensures { OnOk result (C.did (Synced (C.stamp (held_value handle.now.held)))) }
     {
-        again::sync(&self.calls, &handle.fd)
+        again::sync(&self.calls, handle.fd())
     }
 
     fn set(&self, handle: &Handle<C>, change: Change) -> Result<(), DiskError>
-        ensures { OnOk result (IsNothing change ⊎ C.did (Set (C.stamp handle.now.fd) change)) }
+        ensures { OnOk result (IsNothing change ⊎ C.did (Set (C.stamp (held_value handle.now.held)) change)) }
     {
         self.set_open(handle, change)
     }
 
     fn set_at(&self, dir: &Handle<C>, name: &Name, change: Change) -> Result<(), DiskError>
         requires { IsLawfulName name.now }
-        ensures { OnOk result (IsNothing change ⊎ WasSetAt C.did (C.number dir.now.fd) name.now change) }
+        ensures { OnOk result (IsNothing change ⊎ WasSetAt C.did (C.number (held_value dir.now.held)) name.now change) }
     {
         let mut page = page_of(self.alloc, &self.path)?;
         let told = self.set_named(&mut page, dir, name, change);
@@ -135,22 +137,22 @@ impl<C: SystemCalls + Drop> System for Linux<C> {
     /// `pwrite`.
     fn write_at(&mut self, file: &Handle<C>, bytes: &[u8], offset: u64) -> Result<usize, DiskError>
         ensures within { IfOk result (λ n. n ≤ length bytes.now) }
-        ensures done { IfOk result (λ n. C.did (Wrote (C.stamp file.now.fd) offset bytes.now n)) }
+        ensures done { IfOk result (λ n. C.did (Wrote (C.stamp (held_value file.now.held)) offset bytes.now n)) }
     {
         if offset >= END {
             return Err(DiskError::Failed(EFBIG));
         }
-        again::write_at(&self.calls, &file.fd, bytes, offset)
+        again::write_at(&self.calls, file.fd(), bytes, offset)
     }
 
     /// `ftruncate`.
     fn set_len(&mut self, file: &Handle<C>, size: u64) -> Result<(), DiskError>
-        ensures { OnOk result (C.did (SetLen (C.stamp file.now.fd) size)) }
+        ensures { OnOk result (C.did (SetLen (C.stamp (held_value file.now.held)) size)) }
     {
         if size >= END {
             return Err(DiskError::Failed(EFBIG));
         }
-        again::set_len(&self.calls, &file.fd, size)
+        again::set_len(&self.calls, file.fd(), size)
     }
 
     fn make_file(
@@ -160,8 +162,8 @@ impl<C: SystemCalls + Drop> System for Linux<C> {
         permissions: Option<u32>,
     ) -> Result<Handle<C>, DiskError>
         requires { IsLawfulName name.now }
-        ensures made { IfOk result (λ file. C.did (MadeFile (way_to (C.number dir.now.fd) ++ name.now) (bits_of 438 permissions) (C.stamp file.fd))) }
-        ensures bits { IfOk result (λ file. HasBits C.did (C.mask self.old.calls) (C.stamp file.fd) permissions) }
+        ensures made { IfOk result (λ file. C.did (MadeFile (way_to (C.number (held_value dir.now.held)) ++ name.now) (bits_of 438 permissions) (C.stamp (held_value file.held)))) }
+        ensures bits { IfOk result (λ file. HasBits C.did (C.mask self.old.calls) (C.stamp (held_value file.held)) permissions) }
     {
         let mut page = page_of(self.alloc, &self.path)?;
         let told = self.make_file_at(&mut page, dir, name, permissions);
@@ -176,8 +178,8 @@ impl<C: SystemCalls + Drop> System for Linux<C> {
         permissions: Option<u32>,
     ) -> Result<(), DiskError>
         requires { IsLawfulName name.now }
-        ensures made { OnOk result (C.did (MadeDir (way_to (C.number dir.now.fd) ++ name.now) (bits_of 511 permissions))) }
-        ensures bits { OnOk result (HasBitsAt C.did (C.mask self.old.calls) (C.stamp dir.now.fd) (C.number dir.now.fd) name.now permissions) }
+        ensures made { OnOk result (C.did (MadeDir (way_to (C.number (held_value dir.now.held)) ++ name.now) (bits_of 511 permissions))) }
+        ensures bits { OnOk result (HasBitsAt C.did (C.mask self.old.calls) (C.stamp (held_value dir.now.held)) (C.number (held_value dir.now.held)) name.now permissions) }
     {
         let mut page = page_of(self.alloc, &self.path)?;
         let told = self.make_dir_at(&mut page, dir, name, permissions);
@@ -187,14 +189,14 @@ impl<C: SystemCalls + Drop> System for Linux<C> {
 
     fn remove_file(&mut self, dir: &Handle<C>, name: &Name) -> Result<(), DiskError>
         requires { IsLawfulName name.now }
-        ensures { OnOk result (C.did (RemovedFile (C.stamp dir.now.fd) name.now)) }
+        ensures { OnOk result (C.did (RemovedFile (C.stamp (held_value dir.now.held)) name.now)) }
     {
         self.remove_file_at(dir, name)
     }
 
     fn remove_dir(&mut self, dir: &Handle<C>, name: &Name) -> Result<(), DiskError>
         requires { IsLawfulName name.now }
-        ensures { OnOk result (C.did (RemovedDir (C.stamp dir.now.fd) name.now)) }
+        ensures { OnOk result (C.did (RemovedDir (C.stamp (held_value dir.now.held)) name.now)) }
     {
         self.remove_dir_at(dir, name)
     }
@@ -208,7 +210,7 @@ impl<C: SystemCalls + Drop> System for Linux<C> {
     ) -> Result<(), DiskError>
         requires from { IsLawfulName from.now }
         requires to { IsLawfulName to.now }
-        ensures { OnOk result (C.did (Renamed (way_to (C.number from_dir.now.fd) ++ from.now) (way_to (C.number to_dir.now.fd) ++ to.now))) }
+        ensures { OnOk result (C.did (Renamed (way_to (C.number (held_value from_dir.now.held)) ++ from.now) (way_to (C.number (held_value to_dir.now.held)) ++ to.now))) }
     {
         let mut old = page_of(self.alloc, &self.path)?;
         let mut new = page_of(self.alloc, &self.other)?;

@@ -6,10 +6,16 @@ mod asking;
 #[cfg(test)]
 mod calls;
 #[cfg(test)]
+mod interrupted;
+#[cfg(test)]
 mod links;
 #[cfg(test)]
 mod setting;
 #[cfg(test)]
+mod sharing;
+#[cfg(test)]
 mod telling;
+#[cfg(test)]
+mod watched;
 #[cfg(test)]
 mod words;

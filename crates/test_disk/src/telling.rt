@@ -2,7 +2,7 @@
 
 use crate::asking::Asked;
 use disk::{DiskError, System};
-use linux_disk::{LibC, Linux};
+use linux_disk::{LibC, Linux, NoFiles, OpenFd};
 use std::os::unix::fs::{MetadataExt, PermissionsExt, symlink};
 use std::os::unix::net::UnixListener;
 use std::test::Fail;
@@ -66,7 +66,7 @@ fn put(rt: &HostRuntime, top: &str, place: &str, item: Item) -> io::Result<()> {
 }
 
 /// A new folder with one `in` and one `out`, in which a file and a folder stand.
-fn new_top(rt: &HostRuntime, name: &str) -> io::Result<String> {
+pub fn new_top(rt: &HostRuntime, name: &str) -> io::Result<String> {
     let place = env::temp_dir(rt)?;
     let alloc = rt.alloc();
     let top = format!(in alloc;
@@ -132,14 +132,21 @@ fn take<S: System + Drop>(
             put(rt, top, place.as_str(), item)?;
             Ok(())
         }
-        Step::Ask(words, wanted) => {
-            let told = asked.ask(words)?;
-            if told.as_str() == wanted {
-                return Ok(());
-            }
-            Err(Fail::from((words, told.as_str(), wanted)))
-        }
+        Step::Ask(words, wanted) => expect(asked, words, wanted),
     }
+}
+
+/// The call comes to that.
+pub fn expect<S: System + Drop>(
+    asked: &mut Asked<S>,
+    words: &str,
+    wanted: &str,
+) -> Result<(), Fail> {
+    let told = asked.ask(words)?;
+    if told.as_str() == wanted {
+        return Ok(());
+    }
+    Err(Fail::from((words, told.as_str(), wanted)))
 }
 
 /// Takes each step.
@@ -160,9 +167,14 @@ pub fn take_all<S: System + Drop>(
 }
 
 /// The folder `in` of that one.
-pub fn open_in(rt: &HostRuntime, top: &str) -> Result<Linux<LibC>, Fail> {
+pub fn open_in(rt: &HostRuntime, top: &str) -> Result<Linux<LibC, NoFiles<OpenFd>>, Fail> {
     let path = format!(in rt.alloc(); "{top}/in")?;
-    match Linux::open(LibC::new(rt.alloc())?, rt.alloc(), path.as_str()) {
+    match Linux::open(
+        LibC::new(rt.alloc())?,
+        NoFiles::new(),
+        rt.alloc(),
+        path.as_str(),
+    ) {
         Ok(linux) => Ok(linux),
         Err(error) => Err(Fail::from(("it cannot be opened", error))),
     }

@@ -1,0 +1,9 @@
+pub mod Troubles
+pub mod Standing
+pub mod Seen
+pub mod Ends
+pub mod Suits
+pub mod Listed
+pub mod Remembered
+pub mod Parts
+pub mod Stays

@@ -1,0 +1,189 @@
+//! Files and folders that stay open from call to call, by their paths.
+
+ghost use Rattle.std.specs.Prelude.{◌≡◌, ◌++◌, ◌∷◌, [], Some, None, IfNone, IfSome, IfOk, IfErr};
+ghost use Rattle.paths.specs.Prefixes.{Name, Names};
+ghost use Rattle.backing.specs.Tree.{Tree};
+ghost use Rattle.backing.specs.declared.call.Kind.TheVariants as kinds;
+ghost use Rattle.disk_folder.specs.declared.opened.Held.{Held as HeldOf};
+ghost use Rattle.disk_folder.specs.Troubles.{IsFailure};
+
+use crate::opened::{Entry, Held, Open};
+use crate::trouble::Trouble;
+use backing::Kind;
+use disk::FileId;
+use errno::ENOMEM;
+use path_cache::{PathCache, Place};
+use paths::Name;
+
+/// How long a folder is used without a look at it, in milliseconds: as long as a client trusts a name.
+const TRUSTED: u64 = 1_000;
+
+/// What is kept open, and what is known of the time.
+#[derive(Drop)]
+pub struct OpenCache<H: Drop> {
+    pub cache: PathCache<Open<H>>,
+    /// How many are kept at most.
+    pub capacity: usize,
+    /// When the call was made, in milliseconds by the disk's clock.
+    pub time: u64,
+    /// What was looked at before that time may have been moved or removed by others since.
+    pub trusted_from: u64,
+}
+
+impl<H: Drop> OpenCache<H> {
+    ghost use Rattle.path_cache.specs.Cache.{kept_at, root_alone, IsAt, IsRelocated};
+    ghost use Rattle.disk.specs.Answers.{AreApart};
+    ghost use Rattle.disk_folder.specs.Standing.{open_of, kind_at, Forgets, NoneKept, IsHeld, IsHeldAt, IsOwn, Keeps, KeepsAll, Settles};
+
+    /// What is open.
+    pub fn open<'b>(&'b self, held: &'b Held<'_, H>) -> &'b Open<H>
+        requires { IsHeld self.now held.now }
+        ensures { open_of self.now held.now ≡ Some result.now }
+    {
+        match held {
+            Held::Kept(place) => self.cache.value(*place),
+            Held::Own(opened) => opened,
+        }
+    }
+
+    /// Where the name is kept below the folder.
+    pub fn child<'a>(&mut self, folder: &Held<'_, H>, name: &'a Name) -> Option<Place<'a>>
+        ensures keeps { KeepsAll self.old self.new }
+        ensures found { (up : Names) → IsHeldAt self.old folder.now up → IfSome result (λ place. IsAt self.new.cache place (up ++ name.now ∷ [])) }
+    {
+        match folder {
+            Held::Kept(place) => self.cache.child(*place, name),
+            Held::Own(_) => None,
+        }
+    }
+
+    /// It was looked at a short time ago, and nobody else has moved or removed a name since.
+    fn is_trusted(&self, place: Place<'_>) -> bool {
+        let looked = self.cache.looked(place);
+        looked >= self.trusted_from && looked.saturating_add(TRUSTED) >= self.time
+    }
+
+    /// Where the name is kept below the folder, as a folder that is used without a look at it.
+    pub fn trusted_folder<'a>(&mut self, folder: &Held<'_, H>, name: &'a Name) -> Option<Place<'a>>
+        requires { IsHeld self.old folder.now }
+        ensures keeps { KeepsAll self.old self.new }
+        ensures found { (up : Names) → IsHeldAt self.old folder.now up → IfSome result (λ place. IsAt self.new.cache place (up ++ name.now ∷ [])) }
+        ensures kind { IfSome result (λ place. kind_at self.new place ≡ Some kinds.Folder) }
+    {
+        let place = self.child(folder, name)?;
+        match self.cache.value(place).kind {
+            Kind::File => None,
+            Kind::Folder => {
+                if self.is_trusted(place) {
+                    Some(place)
+                } else {
+                    None
+                }
+            }
+        }
+    }
+
+    /// A look at the name has shown which file or folder stands there, or none: what is kept there stays if it is that one.
+    pub fn settle(&mut self, entry: &Entry<'_, H>, id: Option<FileId>)
+        requires { IsHeld self.old entry.now.folder }
+        ensures { (up : Names) → IsHeldAt self.old entry.now.folder up → Settles self.old (up ++ entry.now.name.now ∷ []) self.new }
+    {
+        let Held::Kept(folder) = entry.folder else {
+            return;
+        };
+        let Some(place) = self.cache.child(folder, entry.name) else {
+            return;
+        };
+        let kept = self.cache.value(place).id;
+        let same = match id {
+            Some(id) => kept.is(&id),
+            None => false,
+        };
+        if same {
+            self.cache.touch(place, self.time);
+        } else {
+            self.cache.forget(folder, entry.name);
+        }
+    }
+
+    /// What is kept at the name or below it is closed.
+    pub fn forget(&mut self, entry: &Entry<'_, H>)
+        ensures { (up : Names) → IsHeldAt self.old entry.now.folder up → Forgets self.old (up ++ entry.now.name.now ∷ []) self.new }
+    {
+        match entry.folder {
+            Held::Kept(folder) => self.cache.forget(folder, entry.name),
+            Held::Own(_) => {}
+        }
+    }
+
+    /// What was opened at the name is held for the call alone, and nothing is kept there.
+    pub fn hold<'a>(&mut self, entry: &Entry<'a, H>, opened: Open<H>) -> Held<'a, H>
+        ensures held { (up : Names) → IsHeldAt self.old entry.now.folder up → IsHeldAt self.new result (up ++ entry.now.name.now ∷ []) }
+        ensures keeps { (up : Names) → IsHeldAt self.old entry.now.folder up → Keeps self.old (up ++ entry.now.name.now ∷ []) opened self.new }
+        ensures own { IsOwn opened result }
+    {
+        self.forget(entry);
+        Held::Own(opened)
+    }
+
+    /// Keeps what was opened at the name, where there is room and its folder is kept. Want of memory is the only error.
+    pub fn keep<'a>(
+        &mut self,
+        entry: &Entry<'a, H>,
+        opened: Open<H>,
+    ) -> Result<Held<'a, H>, Trouble>
+        ensures held { (up : Names) → IsHeldAt self.old entry.now.folder up → IfOk result (λ held. IsHeldAt self.new held (up ++ entry.now.name.now ∷ [])) }
+        ensures keeps { (up : Names) → IsHeldAt self.old entry.now.folder up → Keeps self.old (up ++ entry.now.name.now ∷ []) opened self.new }
+        ensures own { IfOk result (IsOwn opened) }
+        ensures err { IfErr result IsFailure }
+    {
+        match entry.folder {
+            Held::Own(_) => Ok(self.hold(entry, opened)),
+            Held::Kept(folder) => {
+                if self.cache.len() >= self.capacity {
+                    return Ok(self.hold(entry, opened));
+                }
+                match self.cache.keep(folder, entry.name, opened, self.time) {
+                    Some(place) => Ok(Held::Kept(place)),
+                    None => Err(Trouble::Failed(ENOMEM)),
+                }
+            }
+        }
+    }
+
+    /// Where the path is kept: no call of the system.
+    pub fn recall<'a>(&mut self, names: &'a [Name]) -> Option<Place<'a>>
+        ensures keeps { KeepsAll self.old self.new }
+        ensures found { IfSome result (λ place. IsAt self.new.cache place names.now) }
+        ensures none { IfNone result (NoneKept self.new names.now) }
+    {
+        let mut place = Place::Root;
+        for name in names {
+            match self.cache.child(place, name) {
+                Some(next) => place = next,
+                None => return None,
+            }
+        }
+        Some(place)
+    }
+
+    /// What is kept under the one name is kept under the other one, with all below it, in the place of what is kept there.
+    pub fn relocate(&mut self, source: &Entry<'_, H>, target: &Entry<'_, H>)
+        ensures { (up above : Names) → IsHeldAt self.old source.now.folder up → IsHeldAt self.old target.now.folder above → AreApart (up ++ source.now.name.now ∷ []) (above ++ target.now.name.now ∷ []) → IsRelocated (kept_at self.old.cache) (up ++ source.now.name.now ∷ []) (above ++ target.now.name.now ∷ []) (kept_at self.new.cache) }
+    {
+        match source.folder {
+            Held::Own(_) => self.forget(target),
+            Held::Kept(from) => match target.folder {
+                Held::Own(_) => self.forget(source),
+                Held::Kept(to) => self.cache.relocate(from, source.name, to, target.name),
+            },
+        }
+    }
+
+    /// All but the root is closed.
+    pub fn clear(&mut self)
+        ensures { (p : Names) → kept_at self.new.cache p ≡ root_alone (kept_at self.old.cache) p }
+    {
+        self.cache.clear();
+    }
+}
