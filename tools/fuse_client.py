@@ -1,4 +1,7 @@
-"""A client of the protocol that mirrord serves, FUSE 7.31, in three layers; it needs Python 3 and nothing else.
+"""A client of the protocol that mirrord serves, FUSE 7.31, for tests and bridges; it needs Python 3 and nothing else.
+
+It is no mount, and nothing to build a fast client on: one request is under way at a time, nothing is kept, and of a reply it checks the number and no more. What it builds
+and reads is whole frames, so a bridge can look at each and pass it on. `examples/client`, `examples/fetch` and `examples/read-only` start from it. It has three layers:
 
 Frames     `lookup(unique, parent, name)` and its like build the bytes of one request. They send nothing.
 Bodies     `entry_of(body)` and its like read the body of one reply.
@@ -12,7 +15,7 @@ Bodies     `entry_of(body)` and its like read the body of one reply.
         client.destroy()
 
 A node is a number that the server gave for a name. It counts how often it gave each out, and `forget` gives that back. ROOT is always
-there. A handle is a number of an open file or folder. Names are text or bytes. A client has one request under way at a time.
+there. A handle is a number of an open file or folder. Names are text or bytes.
 """
 import errno
 import os

@@ -35,6 +35,10 @@ OpensDir at stands q (Err Absent) = at q ≡ None
 OpensDir at stands q (Err NotFolder) = IsFile (at q)
 OpensDir at stands q (Err error) = Unit {0}
 
+-- what is open stands at q, and is a file
+abbrev pub StandsAsFile : {H : Type 0} → Tree → (H → Names → Type 0) → Names → H → Type 0
+StandsAsFile at stands q handle = stands handle q × IsFile (at q)
+
 -- the file at q is opened
 abbrev pub OpensFile : {H : Type 0} → Tree → (H → Names → Type 0) → Names → Result H DiskError → Type 0
 OpensFile at stands q (Ok handle) = stands handle q × IsFile (at q)

@@ -1,6 +1,6 @@
 //! The calls of a system below an open folder.
 
-ghost use Rattle.std.specs.Prelude.{ℕ, List, [], ◌∷◌, ◌++◌, ◌≡◌, ◌<◌, ◌≤◌, IfOk, OnOk, length};
+ghost use Rattle.std.specs.Prelude.{ℕ, List, [], ◌∷◌, ◌++◌, ◌≡◌, ◌<◌, ◌≤◌, IfOk, IfSome, OnOk, length};
 ghost use Rattle.paths.specs.Prefixes.{Names};
 ghost use Rattle.disk.specs.Names.{IsLawfulName};
 
@@ -16,7 +16,7 @@ use std::alloc::Global;
 pub trait Disk {
     ghost use Rattle.backing.specs.Tree.{Tree, IsTree};
     ghost use Rattle.disk.specs.declared.stat.Change.{Change};
-    ghost use Rattle.disk.specs.Answers.{Inspects, Looks, OpensDir, OpensFile, Reads, ListsNames, Makes, MakesDir, Removes, RemovesDir, Renames, Writes, Cuts, AreApart};
+    ghost use Rattle.disk.specs.Answers.{Inspects, Looks, OpensDir, OpensFile, StandsAsFile, Reads, ListsNames, Makes, MakesDir, Removes, RemovesDir, Renames, Writes, Cuts, AreApart};
 
     /// A file or folder that is open for as long as the value is there. No value ever comes back.
     type Handle: Drop;
@@ -42,11 +42,22 @@ pub trait Disk {
     /// Milliseconds by a clock that does not go back.
     fn now(&self) -> u64;
 
-    /// How often others who serve the same folder with this process have removed or moved a name.
+    /// How often a folder was removed or moved, by those in this process who serve the same folder.
+    fn moves(&self) -> u64;
+
+    /// How often they changed anything.
     fn changes(&self) -> u64;
+
+    /// A folder was moved, or may have been, by a call of ours. A folder that was removed is counted without that.
+    fn note_move(&self);
 
     /// Whether the system keeps files open by itself, so that opening one again costs no call.
     fn keeps_files(&self) -> bool;
+
+    /// The file that the system keeps open under the name, if it keeps one that serves.
+    fn find_open(&self, dir: &Self::Handle, name: &Name, access: Access) -> Option<Self::Handle>
+        requires { IsLawfulName name.now }
+        ensures { (up : Names) → stands self.now dir.now up → IfSome result (StandsAsFile (tree self.now) (stands self.now) (up ++ name.now ∷ [])) };
 
     /// Opens the folder itself.
     fn open_root(&self) -> Result<Self::Handle, DiskError>

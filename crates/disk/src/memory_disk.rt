@@ -37,12 +37,29 @@ impl Disk for MemoryDisk {
         self.schedule.now()
     }
 
+    /// As often as anything changed.
+    fn moves(&self) -> u64 {
+        self.schedule.changes()
+    }
+
     fn changes(&self) -> u64 {
         self.schedule.changes()
     }
 
+    fn note_move(&self) {}
+
     fn keeps_files(&self) -> bool {
         self.schedule.keeps_files()
+    }
+
+    /// It opens each anew.
+    fn find_open(
+        &self,
+        _dir: &MemoryHandle,
+        _name: &Name,
+        _access: Access,
+    ) -> Option<MemoryHandle> {
+        None
     }
 
     fn open_root(&self) -> Result<MemoryHandle, DiskError> {

@@ -17,9 +17,16 @@ pub trait System {
 
     fn now(&self) -> u64;
 
+    fn moves(&self) -> u64;
+
     fn changes(&self) -> u64;
 
+    fn note_move(&self);
+
     fn keeps_files(&self) -> bool;
+
+    fn find_open(&self, dir: &Self::Handle, name: &Name, access: Access) -> Option<Self::Handle>
+        requires { IsLawfulName name.now };
 
     fn open_root(&self) -> Result<Self::Handle, DiskError>;
 

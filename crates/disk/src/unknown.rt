@@ -65,12 +65,24 @@ impl<S: System + Drop> Disk for Unknown<S> {
         self.system.now()
     }
 
+    fn moves(&self) -> u64 {
+        self.system.moves()
+    }
+
     fn changes(&self) -> u64 {
         self.system.changes()
     }
 
+    fn note_move(&self) {
+        self.system.note_move();
+    }
+
     fn keeps_files(&self) -> bool {
         self.system.keeps_files()
+    }
+
+    fn find_open(&self, dir: &Self::Handle, name: &Name, access: Access) -> Option<Self::Handle> {
+        self.system.find_open(dir, name, access)
     }
 
     fn open_root(&self) -> Result<Self::Handle, DiskError> {

@@ -1,7 +1,7 @@
 -- What is kept in a cache of open files and folders, as it changes.
 use Rattle.std.proofs.lemmas.Bool.{cond-true}
 use Rattle.std.proofs.lemmas.List.{take-append-drop, take_more}
-use Rattle.std.proofs.Common.{ℕ, ◌+◌, ◌<◌, length, take, drop, get_or, [], ◌∷◌, ◌++◌, append_assoc, sym, ◌≡◌, ◌⊎◌, Bool, true, false, Option, Some, None, IsSome, if◌then◌else◌, refl, ap, ◌∙◌, subst, inl, inr}
+use Rattle.std.proofs.Common.{IfNone, ℕ, ◌+◌, ◌<◌, length, take, drop, get_or, [], ◌∷◌, ◌++◌, append_assoc, sym, ◌≡◌, ◌⊎◌, Bool, true, false, Option, Some, None, IsSome, if◌then◌else◌, refl, ap, ◌∙◌, subst, inl, inr}
 use Rattle.std.specs.Option.{option_map}
 use Rattle.paths.specs.Prefixes.{Name, Names, is_prefix}
 use Rattle.paths.proofs.PrefixLemmas.{is_prefix-append, is_prefix-both, is_prefix-more}
@@ -134,3 +134,11 @@ pub not_found : {H : Type 0} (mid new : OpenCache H) (names : Names) (k : ℕ) (
 not_found {H} mid new names k name within is same none =
     let whole : take k names ++ name ∷ [] ≡ take (k + 1) names = ap (λ (n : Name). take k names ++ n ∷ []) is ∙ sym (take_more names k name within) in
     kept_none new names k within (same (take (k + 1) names) ∙ subst (λ (q : Names). kept_at mid.cache q ≡ None) whole none)
+
+-- nothing is kept at a path, nor below it
+pub none_at : {H : Type 0} (old new : OpenCache H) (q : Names) → ((p : Names) → kept_at new.cache p ≡ kept_at old.cache p) → kept_at old.cache q ≡ None → NoneKept new q
+none_at {H} old new q same none = record { none = λ more. same (q ++ more) ∙ none_below old.cache q more none }
+
+pub if_none_at : {H A : Type 0} (found : Option A) (old new : OpenCache H) (q : Names) → ((p : Names) → kept_at new.cache p ≡ kept_at old.cache p) → IfNone found (kept_at old.cache q ≡ None) → IfNone found (NoneKept new q)
+if_none_at {H} (Some a) old new q same none = tt
+if_none_at {H} None old new q same none = none_at old new q same none

@@ -1,5 +1,5 @@
 -- How reads and writes end, and what is open then.
-use Rattle.std.proofs.Common.{ℕ, ℤ, Result, Ok, Err, IfOk, IfErr, ◌≡◌, ◌<◌, ◌≤◌, ◌+◌, ◌⊎◌, List, [], ◌∷◌, Option, Some, None, length, take, drop, refl, sym, ap, ◌∙◌, subst, inl, inr, arith}
+use Rattle.std.proofs.Common.{ℕ, ℤ, Result, Ok, Err, IfOk, IfErr, ◌≡◌, ◌<◌, ◌≤◌, List, [], Option, Some, length, take, refl, sym, ap, ◌∙◌, subst, inl, inr, arith}
 use Rattle.std.specs.Option.{option_map}
 use Rattle.std.proofs.lemmas.List.{take_all, length-drop, length-take, nil_from_length}
 use Rattle.paths.specs.Prefixes.{Names}
@@ -7,7 +7,7 @@ use Rattle.backing.specs.declared.call.Answer.{Answer}
 use Rattle.backing.specs.declared.call.Answer.TheVariants.{Bytes, Done, Wrote}
 use Rattle.backing.specs.declared.call.Kind.TheVariants as kinds
 use Rattle.backing.specs.declared.entries.Item.{Item}
-use Rattle.backing.specs.declared.entries.Item.TheVariants.{Folder, File}
+use Rattle.backing.specs.declared.entries.Item.TheVariants.{File}
 use Rattle.backing.specs.Files.{read, resized, written}
 use Rattle.backing.specs.Tree.{Tree, IsTree, IsFolder, kind_of, size_of, with_item}
 use Rattle.backing.specs.Calls.{AskRead, AskSetLen, AskWrite, PassesAll}
@@ -23,7 +23,7 @@ use Rattle.disk_folder.specs.declared.look.Seen.{Seen}
 use Rattle.disk_folder.specs.declared.open_cache.OpenCache.{OpenCache}
 use Rattle.disk_folder.specs.declared.trouble.Trouble.{Trouble}
 use Rattle.disk_folder.specs.declared.trouble.Trouble.TheVariants.{Refused, Failed}
-use Rattle.disk_folder.specs.Ends.{Ends, Fails, Before, Within, After, IsRefused}
+use Rattle.disk_folder.specs.Ends.{Ends, Fails, Before, Within, After}
 use Rattle.disk_folder.specs.Parts.{WroteSoFar}
 use Rattle.disk_folder.specs.Seen.{IsSeen}
 use Rattle.disk_folder.specs.Standing.{AllStand}

@@ -108,3 +108,8 @@ file_no_folder (Some (File bytes)) f g = g
 pub some_from : (o : Option Item) → IsFolder o → IsSome o
 some_from None h = absurd h
 some_from (Some item) h = some_item (Some item) item refl
+
+-- each folder on the way down
+pub on_the_way : (at : Tree) (names : Names) (name one : Name) (k : ℕ) → Resolves at (names ++ name ∷ []) → k < length names → take k names ++ one ∷ [] ≡ take (k + 1) names → IsFolder (at (take k names ++ one ∷ []))
+on_the_way at names name one k down within same =
+    subst (λ (q : Names). IsFolder (at q)) (take-append-le (k + 1) names (name ∷ []) (omega arith) ∙ sym same) (down.down (k + 1) (omega (arith, length-append names (name ∷ []))))

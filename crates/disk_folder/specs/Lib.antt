@@ -7,3 +7,9 @@ pub mod Listed
 pub mod Remembered
 pub mod Parts
 pub mod Stays
+pub mod Changes
+pub mod Moving
+pub mod Attributes
+pub mod Explained
+pub mod Gives
+pub mod CallLemmas

@@ -62,7 +62,7 @@ fn read_behind<D: Disk>(
     }
 }
 
-/// Reads where no file has bytes: the file's size tells that it has none there.
+/// Reads where no file has that many bytes: the file's size tells that it has none there.
 fn read_past<D: Disk>(disk: &D, file: &D::Handle, offset: u64) -> Result<Answer, Trouble>
     ensures ok { IfOk result (λ answer. (p : Names) (bytes : List ℕ) → D.stands disk.now file.now p → D.tree disk.now p ≡ Some (File bytes) → (length bytes ≤ offset) × (answer ≡ Bytes [])) }
     ensures none { IfOk result (λ answer. answer ≡ Bytes []) }
@@ -92,7 +92,7 @@ fn read_open<D: Disk>(
     ensures short { IfOk result (λ answer. (bytes : List ℕ) × (answer ≡ Bytes bytes) × (length bytes ≤ size)) }
     ensures err { IfErr result IsFailure }
 {
-    if offset > LONGEST {
+    if offset > LONGEST - u64::from(size) {
         return read_past(disk, file, offset);
     }
     let buffer = buffer_of(disk.alloc(), spare, HEADER_ROOM + size as usize)?;

@@ -1,6 +1,6 @@
 //! The open file at a path.
 
-ghost use Rattle.std.specs.Prelude.{◌≡◌, ◌++◌, ◌∷◌, [], Some, IfOk, IfErr, IfSome};
+ghost use Rattle.std.specs.Prelude.{◌≡◌, ◌++◌, ◌∷◌, [], Some, IfOk, IfErr, IfNone, IfSome};
 ghost use Rattle.paths.specs.Prefixes.{Names};
 ghost use Rattle.path_cache.specs.Cache.{IsAt};
 ghost use Rattle.backing.specs.declared.call.Kind.TheVariants as kinds;
@@ -107,12 +107,12 @@ pub fn open_same<D: Disk>(
 ) -> Result<Open<D::Handle>, Trouble>
     requires { IsEntry cache.now entry.now }
     ensures ok { (up : Names) → IsFolderAt (D.tree disk.now) (D.stands disk.now) cache.now entry.now.folder up → IfOk result (IsOpenFile (D.tree disk.now) (D.stands disk.now) (up ++ entry.now.name.now ∷ [])) }
-    ensures same { IfOk result (λ opened. opened.id ≡ id) }
+    ensures same { IfOk result (λ opened. opened.id ≡ Some id) }
     ensures err { IfErr result IsFailure }
 {
     match open_for(disk, cache, entry, access) {
         Ok(opened) => {
-            if opened.id.is(&id) {
+            if opened.is(&id) {
                 Ok(opened)
             } else {
                 Err(Trouble::Failed(EIO))
@@ -161,8 +161,53 @@ pub fn open_and_keep<'a, D: Disk>(
     }
 }
 
-/// The open file at the name, behind a look.
+/// The file at the name that the system itself keeps open, for the length of the call: no look.
+fn find_kept<'a, D: Disk>(
+    disk: &D,
+    cache: &mut OpenCache<D::Handle>,
+    entry: &Entry<'a, D::Handle>,
+    access: Access,
+) -> Option<Held<'a, D::Handle>>
+    requires { IsEntry cache.old entry.now }
+    ensures held { (up : Names) → IsHeldAt cache.old entry.now.folder up → IfSome result (λ held. IsHeldAt cache.new held (up ++ entry.now.name.now ∷ [])) }
+    ensures ok { (up : Names) → IsFolderAt (D.tree disk.now) (D.stands disk.now) cache.old entry.now.folder up → IfSome result (λ held. IsFileAt (D.tree disk.now) (D.stands disk.now) cache.new held (up ++ entry.now.name.now ∷ [])) }
+    ensures none { IfNone result (cache.new ≡ cache.old) }
+{
+    match disk.find_open(&cache.open(&entry.folder).handle, entry.name, access) {
+        None => None,
+        Some(handle) => {
+            let opened = Open {
+                kind: Kind::File,
+                id: None,
+                access,
+                handle,
+            };
+            Some(cache.hold(entry, opened))
+        }
+    }
+}
+
+/// The open file at the name: one that the system keeps open, or else behind a look.
 pub fn find_in<'a, D: Disk>(
+    disk: &D,
+    cache: &mut OpenCache<D::Handle>,
+    entry: Entry<'a, D::Handle>,
+    access: Access,
+) -> Result<Held<'a, D::Handle>, Trouble>
+    requires { IsEntry cache.old entry }
+    ensures held { (up : Names) → IsHeldAt cache.old entry.entry.folder up → IfOk result (λ held. IsHeldAt cache.new held (up ++ entry.entry.name.now ∷ [])) }
+    ensures ok { (up : Names) → IsFolderAt (D.tree disk.now) (D.stands disk.now) cache.old entry.entry.folder up → IfOk result (λ held. IsFileAt (D.tree disk.now) (D.stands disk.now) cache.new held (up ++ entry.entry.name.now ∷ [])) }
+    ensures stand { (up : Names) → IsFolderAt (D.tree disk.now) (D.stands disk.now) cache.old entry.entry.folder up → AllStand (D.tree disk.now) (D.stands disk.now) cache.new }
+    ensures err { (up : Names) → IsFolderAt (D.tree disk.now) (D.stands disk.now) cache.old entry.entry.folder up → IfErr result (IsNoFile (D.tree disk.now) (up ++ entry.entry.name.now ∷ [])) }
+{
+    match find_kept(disk, cache, &entry, access) {
+        Some(held) => Ok(held),
+        None => find_seen(disk, cache, entry, access),
+    }
+}
+
+/// The open file at the name, behind a look.
+fn find_seen<'a, D: Disk>(
     disk: &D,
     cache: &mut OpenCache<D::Handle>,
     entry: Entry<'a, D::Handle>,

@@ -8,9 +8,10 @@ ghost use Rattle.backing.specs.Tree.{Tree};
 ghost use Rattle.disk_folder.specs.Remembered.{IsListed};
 ghost use Rattle.disk_folder.specs.Seen.{IsSeen};
 
-use crate::listing::SeenName;
+use crate::listing::{SeenName, add};
 use crate::look::Seen;
 use paths::{Name, Path};
+use std::alloc::Global;
 use std::cmp::Ordering;
 
 /// How long what was looked at is told without another look, in milliseconds.
@@ -25,6 +26,8 @@ pub struct Listed {
     pub seen: Vec<SeenName>,
     /// When the call was made that looked, in milliseconds by the disk's clock.
     pub time: u64,
+    /// How often anything had been changed then.
+    pub changes: u64,
 }
 
 /// By the bytes of their names.
@@ -37,6 +40,43 @@ pub fn sort(seen: &mut Vec<SeenName>)
     ensures { IsPermutation seen.old.items seen.new.items }
 {
     seen.sort_unstable_by(|one, other| compare(&one.name, &other.name));
+}
+
+/// When a call was made, in milliseconds by the disk's clock, and how often anything had been changed then.
+#[derive(Clone, Copy)]
+pub struct Moment {
+    pub time: u64,
+    pub changes: u64,
+}
+
+/// What was seen at a path that is not the root is remembered, unless memory is refused.
+pub fn remember_one(
+    alloc: Global,
+    path: &Path,
+    seen: Option<Seen>,
+    moment: Moment,
+) -> Option<Listed>
+    ensures { (at : Tree) → IfSome seen (IsSeen at path.now) → IsListed at result }
+{
+    let Some((name, above)) = path.names().split_last() else {
+        return None;
+    };
+    let Some(seen) = seen else {
+        return None;
+    };
+    let Ok(folder) = path.prefix(above.len()) else {
+        return None;
+    };
+    let mut one = Vec::new(alloc);
+    match add(&mut one, name, Some(seen)) {
+        Ok(()) => Some(Listed {
+            path: folder,
+            seen: one,
+            time: moment.time,
+            changes: moment.changes,
+        }),
+        Err(_) => None,
+    }
 }
 
 /// What was seen at the name.
@@ -72,14 +112,14 @@ fn seen_in(listed: &Listed, path: &Path) -> Option<Seen>
     }
 }
 
-/// What was seen at the path, if that was a short time ago.
-pub fn recall_seen(listed: &Option<Listed>, path: &Path, time: u64) -> Option<Seen>
+/// What was seen at the path, if that was a short time ago and nothing has been changed since.
+pub fn recall_seen(listed: &Option<Listed>, path: &Path, time: u64, changes: u64) -> Option<Seen>
     ensures { (at : Tree) → IsListed at listed.now → IfSome result (IsSeen at path.now) }
 {
     match listed {
         None => None,
         Some(listed) => {
-            if time.saturating_sub(listed.time) > FRESH {
+            if listed.changes != changes || time.saturating_sub(listed.time) > FRESH {
                 None
             } else {
                 seen_in(listed, path)

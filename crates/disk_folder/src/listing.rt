@@ -134,12 +134,17 @@ fn names_of(alloc: Global, seen: &[SeenName]) -> Result<Answer, Trouble>
 }
 
 /// What was seen is remembered.
-fn remember(path: &Path, mut seen: Vec<SeenName>, time: u64) -> Option<Listed>
+fn remember(path: &Path, mut seen: Vec<SeenName>, time: u64, changes: u64) -> Option<Listed>
     ensures { (at : Tree) → EachSeen at path.now seen.items → IsListed at result }
 {
     sort(&mut seen);
     match path.copy() {
-        Ok(path) => Some(Listed { path, seen, time }),
+        Ok(path) => Some(Listed {
+            path,
+            seen,
+            time,
+            changes,
+        }),
         Err(_) => None,
     }
 }
@@ -156,10 +161,11 @@ pub fn list<D: Disk>(
     ensures stand { AllStand (D.tree disk.now) (D.stands disk.now) cache.old → AllStand (D.tree disk.now) (D.stands disk.now) cache.new }
     ensures listed { AllStand (D.tree disk.now) (D.stands disk.now) cache.old → IsListed (D.tree disk.now) listed.old → IsListed (D.tree disk.now) listed.new }
 {
+    let changes = disk.changes();
     match list_seen(disk, cache, path) {
         Ok(seen) => {
             let answer = names_of(disk.alloc(), seen.as_slice());
-            *listed = remember(path, seen, cache.time);
+            *listed = remember(path, seen, cache.time, changes);
             answer
         }
         Err(trouble) => Err(trouble),

@@ -1,6 +1,6 @@
 //! Files and folders that stay open from call to call, by their paths.
 
-ghost use Rattle.std.specs.Prelude.{◌≡◌, ◌++◌, ◌∷◌, [], Some, None, IfNone, IfSome, IfOk, IfErr};
+ghost use Rattle.std.specs.Prelude.{◌≡◌, ◌⊎◌, ◌++◌, ◌∷◌, [], Some, None, IfNone, IfSome, IfOk, IfErr};
 ghost use Rattle.paths.specs.Prefixes.{Name, Names};
 ghost use Rattle.backing.specs.Tree.{Tree};
 ghost use Rattle.backing.specs.declared.call.Kind.TheVariants as kinds;
@@ -18,6 +18,19 @@ use paths::Name;
 /// How long a folder is used without a look at it, in milliseconds: as long as a client trusts a name.
 const TRUSTED: u64 = 1_000;
 
+/// Of a time, so many bits are kept beside the epoch.
+const TIME_BITS: u32 = 48;
+
+const TIMES: u64 = (1 << TIME_BITS) - 1;
+
+/// Whether both are known, and the same file or folder.
+fn is_same(one: Option<FileId>, other: Option<FileId>) -> bool {
+    match (one, other) {
+        (Some(one), Some(other)) => one.is(&other),
+        _ => false,
+    }
+}
+
 /// What is kept open, and what is known of the time.
 #[derive(Drop)]
 pub struct OpenCache<H: Drop> {
@@ -26,8 +39,10 @@ pub struct OpenCache<H: Drop> {
     pub capacity: usize,
     /// When the call was made, in milliseconds by the disk's clock.
     pub time: u64,
-    /// What was looked at before that time may have been moved or removed by others since.
-    pub trusted_from: u64,
+    /// How often folders had been removed and names moved, as far as that was heard of.
+    pub moves: u64,
+    /// How often it was heard that others had done so. What was looked at in an earlier epoch may have been moved or removed since.
+    pub epoch: u64,
 }
 
 impl<H: Drop> OpenCache<H> {
@@ -50,6 +65,7 @@ impl<H: Drop> OpenCache<H> {
     pub fn child<'a>(&mut self, folder: &Held<'_, H>, name: &'a Name) -> Option<Place<'a>>
         ensures keeps { KeepsAll self.old self.new }
         ensures found { (up : Names) → IsHeldAt self.old folder.now up → IfSome result (λ place. IsAt self.new.cache place (up ++ name.now ∷ [])) }
+        ensures none { (up : Names) → IsHeldAt self.old folder.now up → IfNone result (NoneKept self.new (up ++ name.now ∷ [])) }
     {
         match folder {
             Held::Kept(place) => self.cache.child(*place, name),
@@ -57,10 +73,23 @@ impl<H: Drop> OpenCache<H> {
         }
     }
 
-    /// It was looked at a short time ago, and nobody else has moved or removed a name since.
+    /// The epoch and the time of the call, in one number.
+    fn stamp(&self) -> u64 {
+        (self.epoch << TIME_BITS) | (self.time & TIMES)
+    }
+
+    /// It was looked at a short time ago, and nobody else has moved a name or removed a folder since.
     fn is_trusted(&self, place: Place<'_>) -> bool {
         let looked = self.cache.looked(place);
-        looked >= self.trusted_from && looked.saturating_add(TRUSTED) >= self.time
+        let same_epoch = looked >> TIME_BITS == self.stamp() >> TIME_BITS;
+        same_epoch && (looked & TIMES).saturating_add(TRUSTED) >= self.time & TIMES
+    }
+
+    /// Room for so many more, where the least recently used are closed.
+    pub fn make_room(&mut self, n: usize)
+        ensures { (p : Names) → (kept_at self.new.cache p ≡ kept_at self.old.cache p) ⊎ (kept_at self.new.cache p ≡ None) }
+    {
+        self.cache.make_room(n);
     }
 
     /// Where the name is kept below the folder, as a folder that is used without a look at it.
@@ -95,12 +124,9 @@ impl<H: Drop> OpenCache<H> {
             return;
         };
         let kept = self.cache.value(place).id;
-        let same = match id {
-            Some(id) => kept.is(&id),
-            None => false,
-        };
-        if same {
-            self.cache.touch(place, self.time);
+        if is_same(kept, id) {
+            let stamp = self.stamp();
+            self.cache.touch(place, stamp);
         } else {
             self.cache.forget(folder, entry.name);
         }
@@ -143,7 +169,8 @@ impl<H: Drop> OpenCache<H> {
                 if self.cache.len() >= self.capacity {
                     return Ok(self.hold(entry, opened));
                 }
-                match self.cache.keep(folder, entry.name, opened, self.time) {
+                let stamp = self.stamp();
+                match self.cache.keep(folder, entry.name, opened, stamp) {
                     Some(place) => Ok(Held::Kept(place)),
                     None => Err(Trouble::Failed(ENOMEM)),
                 }

@@ -1,5 +1,7 @@
 //! Open files and folders.
 
+ghost use Rattle.std.specs.Prelude.{◌≡◌, IsTrue, Some};
+
 use backing::Kind;
 use disk::{Access, FileId};
 use path_cache::Place;
@@ -9,11 +11,23 @@ use paths::Name;
 #[derive(Drop)]
 pub struct Open<H: Drop> {
     pub kind: Kind,
-    /// Which one it is.
-    pub id: FileId,
+    /// Which one it is, where that was asked for.
+    pub id: Option<FileId>,
     /// What a file was opened for.
     pub access: Access,
     pub handle: H,
+}
+
+impl<H: Drop> Open<H> {
+    /// Whether it is known to be that one.
+    pub fn is(&self, id: &FileId) -> bool
+        ensures { IsTrue result → self.now.id ≡ Some id.now }
+    {
+        match self.id {
+            Some(own) => own.is(id),
+            None => false,
+        }
+    }
 }
 
 /// An open file or folder, for the length of a call.

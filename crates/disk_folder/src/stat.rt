@@ -73,7 +73,7 @@ pub fn stat<D: Disk>(
     ensures ends { AllStand (D.tree disk.now) (D.stands disk.now) cache.old → IsListed (D.tree disk.now) listed.now → Ends (D.tree disk.now) (AskStat path.now) result (D.tree disk.now) }
     ensures stand { AllStand (D.tree disk.now) (D.stands disk.now) cache.old → AllStand (D.tree disk.now) (D.stands disk.now) cache.new }
 {
-    if let Some(seen) = recall_seen(listed, path, cache.time) {
+    if let Some(seen) = recall_seen(listed, path, cache.time, disk.changes()) {
         return Ok(stat_of(seen));
     }
     match see(disk, cache, path) {

@@ -30,7 +30,7 @@ pub fn identified<D: Disk>(
     match disk.inspect(&handle) {
         Ok(stat) => Ok(Open {
             kind,
-            id: stat.id,
+            id: Some(stat.id),
             access,
             handle,
         }),

@@ -90,7 +90,7 @@ impl Session {
         let body = init_reply_of(answer);
         match self.offer(link, Reply { unique, body }) {
             Some(sent) => {
-                // A version is agreed on even if the reply was not taken, but not if there was no memory for the reply.
+                // A version is agreed on whatever becomes of the reply.
                 self.agreed = agrees(answer, self.agreed);
                 sent
             }

@@ -1,13 +1,13 @@
 -- Each step keeps the rule of the job queue.
-use Rattle.std.proofs.Common.{◌≡◌, ◌≢◌, ℕ, zero, suc, ◌+◌, ◌-◌, ◌<◌, List, [], ◌∷◌, ◌++◌, set, sym, refl, ap, ◌∙◌, subst, ⊎_elim, Option, arith}
+use Rattle.std.proofs.Common.{◌≡◌, ℕ, zero, suc, ◌+◌, ◌-◌, ◌<◌, List, [], ◌∷◌, ◌++◌, set, sym, refl, ap, ◌∙◌, ⊎_elim, arith}
 use mathlib.Core.Option.{some, some-injective, some-ne-none}
 use lib.ListN.{get_elem?}
 use Rattle.crossbeam_channel.specs.Fifo.{Pushes, Pops, Forks, Merges, Learns}
 use Rattle.atomic_table.proofs.Lists.{at_set, at_snoc}
-use Rattle.engine_queues.specs.Totals.{total, items_of}
-use Rattle.engine_queues.proofs.TotalsLemmas.{total_append, total_set, total_at, items_append}
+use Rattle.engine_queues.specs.Totals.{total}
+use Rattle.engine_queues.proofs.TotalsLemmas.{total_append, total_set, total_at}
 use Rattle.engine_queues.specs.declared.jobs.Hand.{Hand}
-use Rattle.engine_queues.specs.Jobs.{hand, both, put_of, taken_of, IdleIsEmpty, Accounts, Balanced}
+use Rattle.engine_queues.specs.Jobs.{hand, put_of, taken_of, IdleIsEmpty, Accounts, Balanced}
 
 module _ {J : Type 0} where
   idle_set : (views : List (Hand J)) (port : ℕ) (w : Hand J) → (w.parts ≡ 0 → (w.put ≡ []) × (w.taken ≡ [])) → IdleIsEmpty views → IdleIsEmpty (set views port w)
@@ -20,7 +20,7 @@ module _ {J : Type 0} where
     only zero v e none = let is : hand 8 [] [] ≡ v = some-injective (hand 8 [] []) v e in let p : 8 ≡ v.parts = ap (λ (y : Hand J). y.parts) is in absurd (omega arith)
     only (suc port) v e none = absurd (some-ne-none v (sym e))
 
-  pub puts : (n port : ℕ) (v : Hand J) (x : Option J) → 0 < v.parts → Pushes Balanced n port v x (λ w. w ≡ put_of v x)
+  pub puts : (n port : ℕ) (v : Hand J) (x : J) → 0 < v.parts → Pushes Balanced n port v x (λ w. w ≡ put_of v x)
   puts n port v x some_part items views room b at =
       let w = put_of v x in (
         w,
@@ -30,8 +30,8 @@ module _ {J : Type 0} where
               let s = total_set (λ (u : Hand J). total h u.put) views port v w at in
               let t = total_set (λ (u : Hand J). total h u.taken) views port v w at in
               let p = b.1 h in
-              let a = total_append h v.put (items_of (x ∷ [])) in
-              let i : total h (items_of (items ++ x ∷ [])) ≡ total h (items_of items) + total h (items_of (x ∷ [])) = ap (total h) (items_append items (x ∷ [])) ∙ total_append h (items_of items) (items_of (x ∷ [])) in
+              let a = total_append h v.put (x ∷ []) in
+              let i = total_append h items (x ∷ []) in
               omega arith),
           idle_set views port w (λ none. absurd (omega arith)) b.2,
         ),
@@ -48,8 +48,8 @@ module _ {J : Type 0} where
               let s = total_set (λ (u : Hand J). total h u.put) views port v w at in
               let t = total_set (λ (u : Hand J). total h u.taken) views port v w at in
               let p = b.1 h in
-              let a = total_append h v.taken (items_of (x ∷ [])) in
-              let i : total h (items_of (x ∷ items)) ≡ total h (items_of (x ∷ [])) + total h (items_of items) = ap (total h) (items_append (x ∷ []) items) ∙ total_append h (items_of (x ∷ [])) (items_of items) in
+              let a = total_append h v.taken (x ∷ []) in
+              let i = total_append h (x ∷ []) items in
               omega arith),
           idle_set views port w (λ none. absurd (omega arith)) b.2,
         ),
@@ -99,8 +99,8 @@ module _ {J : Type 0} where
       let a : x.parts ≡ 0 = omega arith in let b : total (λ (u : Hand J). u.parts) xs ≡ v.parts = omega arith in
       let first = none 0 x refl a in let rest = alone f xs port v (λ j u h. none (suc j) u h) at b in omega arith
 
-  pub learns : (port : ℕ) (v : Hand J) → v.parts ≡ 8 → Learns Balanced port v (λ items. Accounts v.put v.taken (items_of items))
+  pub learns : (port : ℕ) (v : Hand J) → v.parts ≡ 8 → Learns Balanced port v (λ items. Accounts v.put v.taken items)
   learns port v all items views b at h =
       let p = alone (λ (u : Hand J). total h u.put) views port v (λ j u e none. ap (total h) (b.2 j u e none).0) at (b.0 ∙ sym all) in
       let t = alone (λ (u : Hand J). total h u.taken) views port v (λ j u e none. ap (total h) (b.2 j u e none).1) at (b.0 ∙ sym all) in
-      sym p ∙ b.1 h ∙ ap (λ k. k + total h (items_of items)) t
+      sym p ∙ b.1 h ∙ ap (λ k. k + total h items) t

@@ -1,7 +1,9 @@
 -- Jobs with the numbers 0, 1, 2 and so on.
-use Rattle.std.proofs.Common.{◌≡◌, ℕ, zero, suc, ◌+◌, List, [], ◌∷◌, ◌++◌, length, map, sym, refl, ap, ◌∙◌, eqb, arith, length-append}
+use Rattle.std.proofs.Common.{◌≡◌, ℕ, zero, suc, ◌+◌, ◌<◌, ◌≤◌, List, [], ◌∷◌, ◌++◌, length, map, sym, refl, ap, ◌∙◌, eqb, eq-eqb, arith, length-append}
+use Rattle.std.proofs.lemmas.Bool.{ne_eqb}
 use Rattle.engine_queues.specs.Totals.{total}
-use Rattle.engine_queues.specs.Jobs.{numbers, Accounts, one_if, times}
+use Rattle.engine_queues.specs.Jobs.{numbers, AreTaken, one_if, times}
+use Rattle.engine_queues.proofs.Counting.{counted_none, counted_once}
 
 pub numbers_snoc : (a n : ℕ) → numbers a (suc n) ≡ numbers a n ++ (a + n) ∷ []
 numbers_snoc a zero = let e : a ≡ a + 0 = omega arith in ap (λ k. k ∷ []) e
@@ -23,6 +25,11 @@ module _ {J : Type 0} (number : J → ℕ) where
   total_numbers f [] = refl
   total_numbers f (j ∷ js) = ap (λ k. f (number j) + k) (total_numbers f js)
 
-  -- each number below the number of jobs that were put is taken or left as often as it was put, that is, once
-  pub each_once : (put taken left : List J) (x : ℕ) → map number put ≡ numbers 0 (length put) → Accounts put taken left → times number x taken + times number x left ≡ total (λ k. one_if (eqb k x)) (numbers 0 (length put))
-  each_once put taken left x is h = sym (h (λ j. one_if (eqb (number j) x))) ∙ total_numbers (λ k. one_if (eqb k x)) put ∙ ap (total (λ k. one_if (eqb k x))) is
+  -- each number below the number of jobs that were put was taken once, and no other number was
+  pub each_once : (put taken : List J) (x : ℕ) → map number put ≡ numbers 0 (length put) → AreTaken put taken → (x < length put → times number x taken ≡ 1) × (length put ≤ x → times number x taken ≡ 0)
+  each_once put taken x is all =
+      let own : ℕ → ℕ = λ k. one_if (eqb k x) in
+      let among : times number x taken ≡ total own (numbers 0 (length put)) = sym (all (λ j. own (number j))) ∙ total_numbers own put ∙ ap (total own) is in (
+        (λ below. among ∙ counted_once own x (ap one_if (eq-eqb x x refl)) (λ k n. ap one_if (ne_eqb k x n)) 0 (length put) (omega arith) (omega arith)),
+        λ beyond. among ∙ counted_none own 0 (length put) (λ k low below. ap one_if (ne_eqb k x (λ e. absurd (omega arith)))),
+      )

@@ -1,5 +1,5 @@
 -- Each step keeps the rule of the reply queue.
-use Rattle.std.proofs.Common.{◌≡◌, ◌≢◌, ℕ, zero, suc, ◌+◌, ◌-◌, ◌<◌, ◌≤◌, Bool, true, false, true≢false, List, [], ◌∷◌, ◌++◌, length, set, sym, refl, ap, ◌∙◌, subst, ⊎_elim, ◌⊎◌, inl, inr, append_assoc, Option, Some, None, eqb, eq-eqb, arith, length-append, lt_of_not-le}
+use Rattle.std.proofs.Common.{◌≡◌, ◌≢◌, ℕ, zero, suc, ◌+◌, ◌<◌, ◌≤◌, Bool, true, false, true≢false, List, [], ◌∷◌, ◌++◌, length, set, sym, refl, ap, ◌∙◌, subst, ⊎_elim, ◌⊎◌, inl, inr, append_assoc, eqb, eq-eqb, arith, length-append, lt_of_not-le}
 use Rattle.std.proofs.lemmas.Bool.{ne_eqb}
 use mathlib.Core.Option.{some, some-injective, some-ne-none}
 use lib.ListN.{get_elem?}
@@ -7,11 +7,9 @@ use native.Mathlib.Decide.{dec_le}
 use Rattle.std.proofs.Math.Nat.{eq-or-lt_of_le}
 use Rattle.crossbeam_channel.specs.Fifo.{Pushes, Pops, Forks, Merges, Learns}
 use Rattle.atomic_table.proofs.Lists.{at_set}
-use Rattle.engine_queues.specs.Totals.{items_of}
-use Rattle.engine_queues.proofs.TotalsLemmas.{items_append}
 use Rattle.engine_queues.specs.declared.replies.QueuedReply.{QueuedReply}
 use Rattle.engine_queues.specs.declared.replies.ReplyLane.{ReplyLane}
-use Rattle.engine_queues.specs.Replies.{writer, sender, idle, put_of, got_of, one_more, told, keep, of, Bears, nth, IsWhole, FitsSender, FitsWriter, Fits, Posted}
+use Rattle.engine_queues.specs.Replies.{writer, sender, idle, put_of, got_of, one_more, told, keep, of, nth, IsWhole, FitsSender, FitsWriter, Fits, Posted}
 
 abbrev pick : Bool → ℕ → ℕ → ℕ
 pick true a b = a
@@ -36,13 +34,11 @@ module _ {M : Type 0} where
   of_append p [] ys = refl
   of_append p (r ∷ xs) ys = ap (keep (eqb r.from p) r) (of_append p xs ys) ∙ sym (keep_append (eqb r.from p) r (of p xs) (of p ys))
 
-  of_own : (p : ℕ) (x : Option (QueuedReply M)) → Bears p x → of p (items_of (x ∷ [])) ≡ items_of (x ∷ [])
-  of_own p None e = refl
-  of_own p (Some r) e = ap (λ b. keep b r []) (eq-eqb r.from p e)
+  of_own : (p : ℕ) (r : QueuedReply M) → r.from ≡ p → of p (r ∷ []) ≡ r ∷ []
+  of_own p r e = ap (λ b. keep b r []) (eq-eqb r.from p e)
 
-  of_other : (p q : ℕ) (x : Option (QueuedReply M)) → Bears p x → q ≢ p → of q (items_of (x ∷ [])) ≡ []
-  of_other p q None e n = refl
-  of_other p q (Some r) e n = ap (λ b. keep b r []) (ne_eqb r.from q (λ s. n (sym s ∙ e)))
+  of_other : (p q : ℕ) (r : QueuedReply M) → r.from ≡ p → q ≢ p → of q (r ∷ []) ≡ []
+  of_other p q r e n = ap (λ b. keep b r []) (ne_eqb r.from q (λ s. n (sym s ∙ e)))
 
   append_nil : (xs : List (QueuedReply M)) → xs ++ [] ≡ xs
   append_nil [] = refl
@@ -59,7 +55,7 @@ module _ {M : Type 0} where
   nth_last (x ∷ ls) l zero h = absurd (omega arith)
   nth_last (x ∷ ls) l (suc k) h = nth_last ls l k (omega arith)
 
-  nth_past : (ls : List (List (QueuedReply M))) (k : ℕ) → length ls ≤ k → nth ls k ≡ []
+  pub nth_past : (ls : List (List (QueuedReply M))) (k : ℕ) → length ls ≤ k → nth ls k ≡ []
   nth_past [] k h = refl
   nth_past (x ∷ ls) zero h = absurd (omega arith)
   nth_past (x ∷ ls) (suc k) h = nth_past ls k (omega arith)
@@ -84,10 +80,10 @@ module _ {M : Type 0} where
     only zero u other e = other refl
     only (suc j) u other e = some-ne-none u (sym e)
 
-  pub posts : (n port : ℕ) (v : ReplyLane M) (x : Option (QueuedReply M)) → v.sends ≡ true → Bears v.from x → Pushes Posted n port v x (λ w. w ≡ put_of v x)
+  pub posts : (n port : ℕ) (v : ReplyLane M) (x : QueuedReply M) → v.sends ≡ true → x.from ≡ v.from → Pushes Posted n port v x (λ w. w ≡ put_of v x)
   posts n port v x may bears items views _ h at =
       let w = put_of v x in
-      let gain = items_of (x ∷ []) in
+      let gain : List (QueuedReply M) = x ∷ [] in
       let mine = (h.5 port v at).0 may in
       let sent : ℕ → List (QueuedReply M) = λ p. h.2 p ++ of p gain in
       let apart : (p : ℕ) → p ≢ v.from → sent p ≡ h.2 p = λ p n. ap (λ l. h.2 p ++ l) (of_other v.from p x bears n) ∙ append_nil (h.2 p) in
@@ -104,7 +100,7 @@ module _ {M : Type 0} where
           h.1,
           sent,
           h.3,
-          (λ p. ap (λ l. of p (h.3 ++ l)) (items_append items (x ∷ [])) ∙ ap (of p) (sym (append_assoc h.3 (items_of items) gain)) ∙ of_append p (h.3 ++ items_of items) gain ∙ ap (λ l. l ++ of p gain) (h.4 p)),
+          (λ p. ap (of p) (sym (append_assoc h.3 items gain)) ∙ of_append p (h.3 ++ items) gain ∙ ap (λ l. l ++ of p gain) (h.4 p)),
           all_set (Fits h.0 h.1 sent h.3) views port w
               ((λ _. (mine.0, ap (λ l. l ++ gain) mine.1 ∙ ap (λ l. h.2 v.from ++ l) (sym (of_own v.from x bears)))), λ g. writes port v (h.5 port v at).1 g)
               (λ j u other e.
@@ -119,7 +115,7 @@ module _ {M : Type 0} where
   pub gets : (port : ℕ) (v : ReplyLane M) → v.gets ≡ true → Pops Posted port v (λ x w. w ≡ got_of v x)
   gets port v may x items views h at =
       let w = got_of v x in
-      let gain = items_of (x ∷ []) in
+      let gain : List (QueuedReply M) = x ∷ [] in
       let got = h.3 ++ gain in
       let mine = (h.5 port v at).1 may in (
         w,
@@ -128,7 +124,7 @@ module _ {M : Type 0} where
           h.1,
           h.2,
           got,
-          (λ p. ap (of p) (append_assoc h.3 gain (items_of items) ∙ ap (λ l. h.3 ++ l) (sym (items_append (x ∷ []) items))) ∙ h.4 p),
+          (λ p. ap (of p) (append_assoc h.3 gain items) ∙ h.4 p),
           all_set (Fits h.0 h.1 h.2 got) views port w
               ((h.5 port v at).0, λ _. (mine.0, ap (λ l. l ++ gain) mine.1, mine.2, mine.3, mine.4))
               (λ j u other e. ((h.5 j u e).0, λ g. absurd (other (((h.5 j u e).1 g).0 ∙ sym mine.0)))),
@@ -138,8 +134,8 @@ module _ {M : Type 0} where
 
   pub forks : (port : ℕ) (v : ReplyLane M) → v.gets ≡ true → Forks Posted port v (one_more v) (sender v.made [])
   forks port v may items views h at =
-      let l = one_more v in
-      let r = sender v.made [] in
+      let l : ReplyLane M = one_more v in
+      let r : ReplyLane M = sender v.made [] in
       let vs = set views port l in
       let seat = move h.1 v.made (length vs + 1) in
       let mine = (h.5 port v at).1 may in
@@ -208,10 +204,10 @@ module _ {M : Type 0} where
             (λ (l : k < length known). let q = before k l in (move_else f from 0 k (λ s. absurd (omega arith)) ∙ q.0, nth_before known put k l ∙ q.1))
             (eq-or-lt_of_le (omega arith))
 
-  pub learns : (port : ℕ) (v : ReplyLane M) → v.gets ≡ true → v.made ≡ length v.known → Learns Posted port v (λ items. IsWhole v.known v.got (items_of items))
+  pub learns : (port : ℕ) (v : ReplyLane M) → v.gets ≡ true → v.made ≡ length v.known → Learns Posted port v (λ items. IsWhole v.known v.got items)
   learns port v may all items views h at p =
       let mine = (h.5 port v at).1 may in
-      ap (λ l. of p (l ++ items_of items)) mine.1 ∙ h.4 p ∙ told_of (dec_le (length v.known) p) where
+      ap (λ l. of p (l ++ items)) mine.1 ∙ h.4 p ∙ told_of (dec_le (length v.known) p) where
         told_of : Dec (length v.known ≤ p) → h.2 p ≡ nth v.known p
         told_of (yes le) = let mine = (h.5 port v at).1 may in let made : v.made ≤ p = (let a = all in omega arith) in (mine.2 p made).1 ∙ sym (nth_past v.known p le)
         told_of (no n) = let mine = (h.5 port v at).1 may in sym (mine.3 p (lt_of_not-le n)).1

@@ -1,7 +1,7 @@
-use Rattle.std.proofs.Common.{◌≡◌, ℕ, zero, suc, ◌+◌, List, [], ◌∷◌, ◌++◌, set, sym, refl, ap, ◌∙◌, Option, Some, None, arith}
+use Rattle.std.proofs.Common.{◌≡◌, ℕ, zero, suc, ◌+◌, List, [], ◌∷◌, ◌++◌, set, sym, ap, arith}
 use mathlib.Core.Option.{some, some-injective, some-ne-none}
 use lib.ListN.{get_elem?}
-use Rattle.engine_queues.specs.Totals.{total, items_of}
+use Rattle.engine_queues.specs.Totals.{total}
 
 module _ {T : Type 0} where
   pub total_append : (f : T → ℕ) (xs ys : List T) → total f (xs ++ ys) ≡ total f xs + total f ys
@@ -19,8 +19,3 @@ module _ {T : Type 0} where
   total_at f [] i v e = absurd (some-ne-none v (sym e))
   total_at f (x ∷ xs) zero v e = (total f xs, ap (λ y. f y + total f xs) (some-injective x v e))
   total_at f (x ∷ xs) (suc i) v e = let r = total_at f xs i v e in (f x + r.0, (let s = r.1 in omega arith))
-
-  pub items_append : (ms ns : List (Option T)) → items_of (ms ++ ns) ≡ items_of ms ++ items_of ns
-  items_append [] ns = refl
-  items_append (Some x ∷ ms) ns = ap (λ l. x ∷ l) (items_append ms ns)
-  items_append (None ∷ ms) ns = items_append ms ns

@@ -1,5 +1,5 @@
 -- What the passes of threads that have ended know.
-use Rattle.std.specs.Prelude.{◌≡◌, ℕ, ◌+◌, Bool, true, List, length, map, Option}
+use Rattle.std.specs.Prelude.{◌≡◌, ℕ, ◌+◌, true, List, length, map}
 use Rattle.std.specs.List.{All}
 use Rattle.crossbeam_channel.specs.Claims.{view, Pass}
 use Rattle.engine_queues.specs.declared.jobs.Hand.{Hand}
@@ -31,5 +31,5 @@ module _ {J M : Type 0} where
   puts_of ps = map (λ (p : Passes J M). (view p.reply_pass).put) ps
 
   -- the passes belong to these queues
-  abbrev pub AreSeated : (Pass (Option J) (Hand J) → Type 0) → (Pass (Option (QueuedReply M)) (ReplyLane M) → Type 0) → List (Passes J M) → Type 0
+  abbrev pub AreSeated : (Pass J (Hand J) → Type 0) → (Pass (QueuedReply M) (ReplyLane M) → Type 0) → List (Passes J M) → Type 0
   AreSeated on_jobs on_replies ps = All (λ (p : Passes J M). on_jobs p.job_pass × on_replies p.reply_pass) ps

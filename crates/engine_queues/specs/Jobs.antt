@@ -1,8 +1,8 @@
 -- What the passes of the job queue know.
-use Rattle.std.specs.Prelude.{◌≡◌, ℕ, zero, suc, ◌+◌, Bool, true, false, List, [], ◌∷◌, ◌++◌, length, map, eqb, Option}
+use Rattle.std.specs.Prelude.{◌≡◌, ℕ, zero, suc, ◌+◌, Bool, true, false, List, [], ◌∷◌, ◌++◌, eqb}
 use mathlib.Core.Option.{some}
 use lib.ListN.{get_elem?}
-use Rattle.engine_queues.specs.Totals.{total, items_of}
+use Rattle.engine_queues.specs.Totals.{total}
 use Rattle.engine_queues.specs.declared.jobs.Hand.{Hand}
 
 module _ {J : Type 0} where
@@ -12,11 +12,11 @@ module _ {J : Type 0} where
   abbrev pub both : Hand J → Hand J → Hand J
   both v w = hand (v.parts + w.parts) (v.put ++ w.put) (v.taken ++ w.taken)
 
-  abbrev pub put_of : Hand J → Option J → Hand J
-  put_of v x = hand v.parts (v.put ++ items_of (x ∷ [])) v.taken
+  abbrev pub put_of : Hand J → J → Hand J
+  put_of v x = hand v.parts (v.put ++ x ∷ []) v.taken
 
-  abbrev pub taken_of : Hand J → Option J → Hand J
-  taken_of v x = hand v.parts v.put (v.taken ++ items_of (x ∷ []))
+  abbrev pub taken_of : Hand J → J → Hand J
+  taken_of v x = hand v.parts v.put (v.taken ++ x ∷ [])
 
   -- a pass without a part has put and taken nothing
   abbrev pub IdleIsEmpty : List (Hand J) → Type 0
@@ -26,10 +26,14 @@ module _ {J : Type 0} where
   abbrev pub Accounts : List J → List J → List J → Type 0
   Accounts put taken left = (h : J → ℕ) → total h put ≡ total h taken + total h left
 
-  abbrev pub Balanced : List (Option J) → List (Hand J) → Type 0
+  -- the jobs that were taken are those that were put, each as often
+  abbrev pub AreTaken : List J → List J → Type 0
+  AreTaken put taken = (h : J → ℕ) → total h put ≡ total h taken
+
+  abbrev pub Balanced : List J → List (Hand J) → Type 0
   Balanced items views =
       (total (λ (v : Hand J). v.parts) views ≡ 8)
-      × ((h : J → ℕ) → total (λ (v : Hand J). total h v.put) views ≡ total (λ (v : Hand J). total h v.taken) views + total h (items_of items))
+      × ((h : J → ℕ) → total (λ (v : Hand J). total h v.put) views ≡ total (λ (v : Hand J). total h v.taken) views + total h items)
       × IdleIsEmpty views
 
 -- n numbers from a on

@@ -1,8 +1,7 @@
 -- What the passes of the reply queue know.
-use Rattle.std.specs.Prelude.{◌≡◌, ℕ, zero, suc, ◌+◌, ◌<◌, ◌≤◌, Bool, true, false, List, [], ◌∷◌, ◌++◌, length, Option, Some, None, ⊤, eqb}
+use Rattle.std.specs.Prelude.{◌≡◌, ℕ, zero, suc, ◌+◌, ◌<◌, ◌≤◌, Bool, true, false, List, [], ◌∷◌, ◌++◌, length, eqb}
 use mathlib.Core.Option.{some}
 use lib.ListN.{get_elem?}
-use Rattle.engine_queues.specs.Totals.{items_of}
 use Rattle.engine_queues.specs.declared.replies.QueuedReply.{QueuedReply}
 use Rattle.engine_queues.specs.declared.replies.ReplyLane.{ReplyLane}
 
@@ -16,11 +15,11 @@ module _ {M : Type 0} where
   abbrev pub idle : ReplyLane M
   idle = record { sends = false; from = 0; put = []; gets = false; got = []; made = 0; known = [] }
 
-  abbrev pub put_of : ReplyLane M → Option (QueuedReply M) → ReplyLane M
-  put_of v x = record { sends = v.sends; from = v.from; put = v.put ++ items_of (x ∷ []); gets = v.gets; got = v.got; made = v.made; known = v.known }
+  abbrev pub put_of : ReplyLane M → QueuedReply M → ReplyLane M
+  put_of v x = record { sends = v.sends; from = v.from; put = v.put ++ x ∷ []; gets = v.gets; got = v.got; made = v.made; known = v.known }
 
-  abbrev pub got_of : ReplyLane M → Option (QueuedReply M) → ReplyLane M
-  got_of v x = record { sends = v.sends; from = v.from; put = v.put; gets = v.gets; got = v.got ++ items_of (x ∷ []); made = v.made; known = v.known }
+  abbrev pub got_of : ReplyLane M → QueuedReply M → ReplyLane M
+  got_of v x = record { sends = v.sends; from = v.from; put = v.put; gets = v.gets; got = v.got ++ x ∷ []; made = v.made; known = v.known }
 
   -- the writer has made one more sender's pass
   abbrev pub one_more : ReplyLane M → ReplyLane M
@@ -39,11 +38,6 @@ module _ {M : Type 0} where
   of p [] = []
   of p (r ∷ rs) = keep (eqb r.from p) r (of p rs)
 
-  -- a message of sender p
-  abbrev pub Bears : ℕ → Option (QueuedReply M) → Type 0
-  Bears p (Some r) = r.from ≡ p
-  Bears p None = ⊤
-
   -- the list at index p
   abbrev pub nth : List (List (QueuedReply M)) → ℕ → List (QueuedReply M)
   nth [] p = []
@@ -53,6 +47,10 @@ module _ {M : Type 0} where
   -- for each sender, what was got and what is left is what it put, in its order
   abbrev pub IsWhole : List (List (QueuedReply M)) → List (QueuedReply M) → List (QueuedReply M) → Type 0
   IsWhole puts got left = (p : ℕ) → of p (got ++ left) ≡ nth puts p
+
+  -- of each sender, what was got is what it put, in its order
+  abbrev pub AreGot : List (List (QueuedReply M)) → List (QueuedReply M) → Type 0
+  AreGot puts got = (p : ℕ) → of p got ≡ nth puts p
 
   -- seat p is 0 if no pass sends as p, and otherwise the number of the pass that does, plus 1
   abbrev pub FitsSender : (ℕ → ℕ) → (ℕ → List (QueuedReply M)) → ℕ → ReplyLane M → Type 0
@@ -68,7 +66,7 @@ module _ {M : Type 0} where
   abbrev pub Fits : ℕ → (ℕ → ℕ) → (ℕ → List (QueuedReply M)) → List (QueuedReply M) → ℕ → ReplyLane M → Type 0
   Fits reader seat sent got pass v = FitsSender seat sent pass v × FitsWriter reader seat sent got pass v
 
-  abbrev pub Posted : List (Option (QueuedReply M)) → List (ReplyLane M) → Type 0
+  abbrev pub Posted : List (QueuedReply M) → List (ReplyLane M) → Type 0
   Posted items views = (reader : ℕ) × (seat : ℕ → ℕ) × (sent : ℕ → List (QueuedReply M)) × (got : List (QueuedReply M))
-      × ((p : ℕ) → of p (got ++ items_of items) ≡ sent p)
+      × ((p : ℕ) → of p (got ++ items) ≡ sent p)
       × ((pass : ℕ) (v : ReplyLane M) → get_elem? views pass ≡ some v → Fits reader seat sent got pass v)

@@ -1,17 +1,41 @@
-//! Combining the passes of threads that have ended.
+//! Combining the passes of threads that have ended, and how much they took and put.
 
-ghost use Rattle.std.specs.Prelude.{◌≡◌, ◌<◌, ◌≤◌, ◌+◌, [], length, map, true, List, ℕ, vec_len, vec_capacity};
+ghost use Rattle.std.specs.Prelude.{◌≡◌, ◌<◌, ◌≤◌, ◌^◌, [], length, map, true, vec_len, vec_capacity};
 ghost use Rattle.std.specs.List.{All, flat_map, range_with_len};
+ghost use Rattle.std.specs.Option.{SomeIff};
 ghost use Rattle.crossbeam_channel.specs.Claims.{view, IsSeatAt};
 ghost use Rattle.crossbeam_channel.specs.Ends.{sends_on};
-ghost use Rattle.engine_queues.specs.Jobs.{both, Accounts};
-ghost use Rattle.engine_queues.specs.Replies.{told, IsWhole};
+ghost use Rattle.engine_queues.specs.Jobs.{both, AreTaken};
+ghost use Rattle.engine_queues.specs.Replies.{told, AreGot};
 ghost use Rattle.engine_queues.specs.Gathered.{AreSeated, IsReading, IsWriting, numbers_of, puts_of, takings_of};
-ghost use Rattle.engine_queues.specs.declared.replies.QueuedReply.{QueuedReply};
 
 use crate::jobs::{Cut, JobPass, JobSender, Total};
 use crate::passes::Passes;
 use crate::replies::{ReplyPass, ReplySender, Roles, Whole};
+
+/// How many jobs these workers took together, or `None` if a `u64` cannot hold that many.
+pub fn taken_by<J, M>(passes: &[Passes<J, M>]) -> Option<u64>
+    ensures { let count = length (flat_map (λ js. js) (takings_of passes.now)) in
+        SomeIff result (count < 2 ^ 64) count }
+{
+    let mut sum = 0u64;
+    for worker in passes {
+        sum = sum.checked_add(worker.taken)?;
+    }
+    Some(sum)
+}
+
+/// How many replies these workers put together, or `None` if a `u64` cannot hold that many.
+pub fn put_by<J, M>(passes: &[Passes<J, M>]) -> Option<u64>
+    ensures { let count = length (flat_map (λ rs. rs) (puts_of passes.now)) in
+        SomeIff result (count < 2 ^ 64) count }
+{
+    let mut sum = 0u64;
+    for worker in passes {
+        sum = sum.checked_add(worker.put)?;
+    }
+    Some(sum)
+}
 
 /// Adds the passes of one worker, the next one by number.
 fn take_in<J: Drop, M: Drop>(
@@ -36,17 +60,19 @@ fn take_in<J: Drop, M: Drop>(
 {
     let Passes {
         number: _,
-        count,
+        taken,
+        put: _,
         job_pass,
         reply_pass,
     } = passes;
     jobs.absorb::<Cut>(all, job_pass);
     replies.absorb::<Roles>(whole, reply_pass);
-    count
+    taken
 }
 
-/// What the passes of the reader, of the workers in order of their numbers, and of the writer say together. How many
-/// jobs each worker took is appended to the vector.
+/// What the passes of the reader, of the workers in order of their numbers, and of the writer say together. As many jobs
+/// were taken as were put, and as many replies were got, so neither queue holds anything. How many jobs each worker took
+/// is appended to the vector.
 pub fn gather<J: Drop, M: Drop>(
     jobs: &JobSender<J>,
     replies: &ReplySender<M>,
@@ -64,9 +90,11 @@ pub fn gather<J: Drop, M: Drop>(
     requires writing { IsWriting (view written) (vec_len ended) }
     requires room { vec_len ended ≤ vec_capacity taken }
     requires empty { taken.items ≡ [] }
+    requires all_taken { length (view read).put ≡ length (flat_map (λ js. js) (takings_of ended.items)) }
+    requires all_got { length (view written).got ≡ length (flat_map (λ rs. rs) (puts_of ended.items)) }
     ensures taken { result.items ≡ map (λ js. length js) (takings_of ended.items) }
-    ensures jobs { (left : List J) × Accounts (view read).put (flat_map (λ js. js) (takings_of ended.items)) left }
-    ensures replies { (left : List (QueuedReply M)) × IsWhole (puts_of ended.items) (view written).got left }
+    ensures jobs { AreTaken (view read).put (flat_map (λ js. js) (takings_of ended.items)) }
+    ensures replies { AreGot (puts_of ended.items) (view written).got }
 {
     let mut all = read;
     let mut whole = written;

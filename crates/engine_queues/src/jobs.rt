@@ -13,16 +13,15 @@ pub struct Hand<J> {
     pub taken: LinkedList<J>,
 }
 
-// None tells a worker to stop.
-pub type JobPass<J> = Pass<Option<J>, Hand<J>>;
+pub type JobPass<J> = Pass<J, Hand<J>>;
 
-pub type JobSender<J> = RuledSender<Option<J>, Hand<J>, Fair>;
+pub type JobSender<J> = RuledSender<J, Hand<J>, Fair>;
 
-pub type JobReceiver<J> = RuledReceiver<Option<J>, Hand<J>, Fair>;
+pub type JobReceiver<J> = RuledReceiver<J, Hand<J>, Fair>;
 
 pub struct Fair;
 
-impl<J> Protocol<Option<J>, Hand<J>> for Fair {
+impl<J> Protocol<J, Hand<J>> for Fair {
     ghost use Rattle.engine_queues.specs.Jobs.{hand, Balanced};
     ghost use Rattle.std.specs.Prelude.{[]};
 
@@ -53,13 +52,13 @@ impl<J> Join<Hand<J>> for Cut {
 
 pub struct Puts;
 
-impl<J> Outcome<Option<J>, Hand<J>> for Puts {
+impl<J> Outcome<J, Hand<J>> for Puts {
     ghost use Rattle.engine_queues.specs.Jobs.{put_of};
 
     ghost then = { λ v x w. w ≡ put_of v x };
 }
 
-impl<J> Lesson<Option<J>, Hand<J>> for Puts {
+impl<J> Lesson<J, Hand<J>> for Puts {
     ghost use Rattle.std.specs.Prelude.{⊤};
 
     ghost fact = { λ v items. ⊤ };
@@ -67,13 +66,13 @@ impl<J> Lesson<Option<J>, Hand<J>> for Puts {
 
 pub struct Takes;
 
-impl<J> Outcome<Option<J>, Hand<J>> for Takes {
+impl<J> Outcome<J, Hand<J>> for Takes {
     ghost use Rattle.engine_queues.specs.Jobs.{taken_of};
 
     ghost then = { λ v x w. w ≡ taken_of v x };
 }
 
-impl<J> Lesson<Option<J>, Hand<J>> for Takes {
+impl<J> Lesson<J, Hand<J>> for Takes {
     ghost use Rattle.std.specs.Prelude.{⊤};
 
     ghost fact = { λ v items. ⊤ };
@@ -81,9 +80,8 @@ impl<J> Lesson<Option<J>, Hand<J>> for Takes {
 
 pub struct Total;
 
-impl<J> Lesson<Option<J>, Hand<J>> for Total {
+impl<J> Lesson<J, Hand<J>> for Total {
     ghost use Rattle.engine_queues.specs.Jobs.{Accounts};
-    ghost use Rattle.engine_queues.specs.Totals.{items_of};
 
-    ghost fact = { λ v items. Accounts v.put v.taken (items_of items) };
+    ghost fact = { λ v items. Accounts v.put v.taken items };
 }

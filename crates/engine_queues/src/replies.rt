@@ -26,16 +26,15 @@ pub struct ReplyLane<M> {
     pub known: LinkedList<LinkedList<QueuedReply<M>>>,
 }
 
-// None tells the writer to stop.
-pub type ReplyPass<M> = Pass<Option<QueuedReply<M>>, ReplyLane<M>>;
+pub type ReplyPass<M> = Pass<QueuedReply<M>, ReplyLane<M>>;
 
-pub type ReplySender<M> = RuledSender<Option<QueuedReply<M>>, ReplyLane<M>, InOrder>;
+pub type ReplySender<M> = RuledSender<QueuedReply<M>, ReplyLane<M>, InOrder>;
 
-pub type ReplyReceiver<M> = RuledReceiver<Option<QueuedReply<M>>, ReplyLane<M>, InOrder>;
+pub type ReplyReceiver<M> = RuledReceiver<QueuedReply<M>, ReplyLane<M>, InOrder>;
 
 pub struct InOrder;
 
-impl<M> Protocol<Option<QueuedReply<M>>, ReplyLane<M>> for InOrder {
+impl<M> Protocol<QueuedReply<M>, ReplyLane<M>> for InOrder {
     ghost use Rattle.engine_queues.specs.Replies.{writer, Posted};
     ghost use Rattle.std.specs.Prelude.{[]};
 
@@ -65,13 +64,13 @@ impl<M> Join<ReplyLane<M>> for Roles {
 
 pub struct Posts;
 
-impl<M> Outcome<Option<QueuedReply<M>>, ReplyLane<M>> for Posts {
+impl<M> Outcome<QueuedReply<M>, ReplyLane<M>> for Posts {
     ghost use Rattle.engine_queues.specs.Replies.{put_of};
 
     ghost then = { λ v x w. w ≡ put_of v x };
 }
 
-impl<M> Lesson<Option<QueuedReply<M>>, ReplyLane<M>> for Posts {
+impl<M> Lesson<QueuedReply<M>, ReplyLane<M>> for Posts {
     ghost use Rattle.std.specs.Prelude.{⊤};
 
     ghost fact = { λ v items. ⊤ };
@@ -79,13 +78,13 @@ impl<M> Lesson<Option<QueuedReply<M>>, ReplyLane<M>> for Posts {
 
 pub struct Gets;
 
-impl<M> Outcome<Option<QueuedReply<M>>, ReplyLane<M>> for Gets {
+impl<M> Outcome<QueuedReply<M>, ReplyLane<M>> for Gets {
     ghost use Rattle.engine_queues.specs.Replies.{got_of};
 
     ghost then = { λ v x w. w ≡ got_of v x };
 }
 
-impl<M> Lesson<Option<QueuedReply<M>>, ReplyLane<M>> for Gets {
+impl<M> Lesson<QueuedReply<M>, ReplyLane<M>> for Gets {
     ghost use Rattle.std.specs.Prelude.{⊤};
 
     ghost fact = { λ v items. ⊤ };
@@ -93,9 +92,8 @@ impl<M> Lesson<Option<QueuedReply<M>>, ReplyLane<M>> for Gets {
 
 pub struct Whole;
 
-impl<M> Lesson<Option<QueuedReply<M>>, ReplyLane<M>> for Whole {
+impl<M> Lesson<QueuedReply<M>, ReplyLane<M>> for Whole {
     ghost use Rattle.engine_queues.specs.Replies.{IsWhole};
-    ghost use Rattle.engine_queues.specs.Totals.{items_of};
 
-    ghost fact = { λ v items. IsWhole v.known v.got (items_of items) };
+    ghost fact = { λ v items. IsWhole v.known v.got items };
 }

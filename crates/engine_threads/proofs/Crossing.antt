@@ -2,9 +2,6 @@
 use denote.RattleType.{RattleType}
 use denote.Param.Send.{IsSend, IsSync, sendable}
 use Rattle.std.proofs.Crossing as heap
-use Rattle.std.specs.contracts.alloc.Global as Global
-use Rattle.std.specs.contracts.impls.GlobalAllocator.TheImpl.{ghosts}
-use Rattle.std.specs.contracts.sync.Arc as Arc
 use Rattle.engine.specs.declared.links.LinkIn as ins
 use Rattle.engine.specs.declared.links.LinkOut as out
 use Rattle.engine_turns.proofs.Crossing.{thread_log_send, worker_send, writer_role_send}
@@ -25,39 +22,18 @@ use Rattle.table_shared.proofs.shared_table.SharedTable.TheSendSync as shared_ta
 use Rattle.table_shared.specs.contracts.shared_table.SharedTable as SharedTable
 use Rattle.table_shared.specs.declared.entries.Opening as opening
 use Rattle.engine_threads.specs.contracts.session_state.Common as Common
-use Rattle.engine_threads.specs.contracts.working.ReadyWorker as ReadyWorker
-use Rattle.engine_threads.specs.contracts.working.WorkerEnd as WorkerEnd
-use Rattle.engine_queues.specs.contracts.job.Job as Job
-use Rattle.engine_queues.proofs.passes.Passes.TheSendSync as passes
-use Rattle.engine_queues.specs.contracts.passes.Passes as Passes
-use Rattle.engine_turns.specs.contracts.replies.JobReply as JobReply
+use Rattle.engine_threads.specs.contracts.worker_role.WorkerRole as WorkerRole
+use Rattle.engine_threads.specs.declared.origins.Workers as workers
+use Rattle.backing.specs.declared.calls.Calls as calls
 use Rattle.ledger.specs.declared.ledgers.Ledgers.{Ghosts}
 
-module _ (T N C : RattleType) (n : opening.Ghosts N.Denot) (g : Ghosts T.Denot) where
-  -- what is left of a worker contains a snapshot, so Rattle does not generate this lemma
-  pub worker_end_send : IsSend T → IsSync T → IsSend N → IsSend C → IsSend (WorkerEnd.the_row T N C g n)
-  worker_end_send s y m c =
-      let a : IsSend (ThreadShare.the_field T g).row = search (kept.the_field_send T g, sendable) in
-      let b : IsSend (Passes.the_field Job.the_row JobReply.the_row).row = search (passes.the_field_send Job.the_row JobReply.the_row, sendable) in
-      let f = thread_log_send T g N n m in
-      search (heap.crosses, sendable) depth 20
+module _ (T N C S : RattleType) (n : opening.Ghosts N.Denot) (c : calls.Ghosts C.Denot) (w : workers.Ghosts S.Denot C.Denot) (g : Ghosts T.Denot) where
+  pub role_send : IsSend T → IsSync T → IsSend N → IsSend C → IsSend S → IsSend (WorkerRole.the_row T N C S n c w g)
+  role_send s y m d e = let a : IsSend (ThreadShare.the_field T g).row = search (kept.the_field_send T g, sendable) in let b = worker_send in let f = thread_log_send T g N n m in search sendable depth 20
 
-  pub ready_worker_send : IsSend T → IsSync T → IsSend N → IsSend C → IsSend (ReadyWorker.the_row T N C g n)
-  ready_worker_send s y m c = let a : IsSend (ThreadShare.the_field T g).row = search (kept.the_field_send T g, sendable) in let b = worker_send in let f = thread_log_send T g N n m in search sendable depth 20
-
--- what all threads share: each part of it may be sent, and used by several threads at once
+-- what all threads share: each part of it may be used by several threads at once
 module _ (H T N I O S : RattleType) (n : opening.Ghosts N.Denot) (i : ins.Ghosts I.Denot) (o : out.Ghosts O.Denot) (j : source.Ghosts S.Denot I.Denot) (k : sink.Ghosts S.Denot O.Denot) (g : Ghosts T.Denot) where
-  common_send : IsSend H → IsSend T → IsSync T → IsSend N → IsSend I → IsSend O → IsSend S → IsSend (Common.the_row H T N I O S n i o j k g)
-  common_send h s y m d e f =
-      let a : IsSend (SharedTable.the_field T N g n).row = search (shared_table.the_field_send T N g n, sendable) in
-      let b : IsSend Dirs.the_row = dirs.the_send in
-      let c : IsSend (ReaderRole.the_row I S i j) = search (reader.the_send I S i j, sendable) in
-      let w : IsSend (WriterRole.the_row T N O S n o k g) = writer_role_send T g N O S n o k s y m e f in
-      let p : IsSend (Sleepers.the_field).row = sleepers.the_field_send in
-      let q : IsSend (Signs.the_field).row = signs.the_field_send in
-      search (heap.crosses, sendable) depth 20
-
-  common_sync : IsSync H → IsSend T → IsSync T → IsSend N → IsSend I → IsSend O → IsSend S → IsSync (Common.the_row H T N I O S n i o j k g)
+  pub common_sync : IsSync H → IsSend T → IsSync T → IsSend N → IsSend I → IsSend O → IsSend S → IsSync (Common.the_row H T N I O S n i o j k g)
   common_sync h s y m d e f =
       let a : IsSync (SharedTable.the_field T N g n).row = search (shared_table.the_field_sync T N g n, sendable) in
       let b : IsSync Dirs.the_row = dirs.the_sync in
@@ -66,6 +42,3 @@ module _ (H T N I O S : RattleType) (n : opening.Ghosts N.Denot) (i : ins.Ghosts
       let p : IsSync (Sleepers.the_field).row = sleepers.the_field_sync in
       let q : IsSync (Signs.the_field).row = signs.the_field_sync in
       search (heap.crosses, sendable) depth 20
-
-  pub shared_send : IsSend H → IsSync H → IsSend T → IsSync T → IsSend N → IsSend I → IsSend O → IsSend S → IsSend (Arc.the_row (Common.the_row H T N I O S n i o j k g) Global.the_row ghosts)
-  shared_send h l s y m d e f = heap.Arc-send (Common.the_row H T N I O S n i o j k g) (common_send h s y m d e f) (common_sync l s y m d e f)

@@ -1,10 +1,19 @@
 -- The ends of sessions.
-use Rattle.std.proofs.Common.{◌≡◌, ℕ, Bool, List, Option, None, Some, ◌≢◌, inl, inr, sym, subst}
+use Rattle.std.proofs.Common.{◌≡◌, ◌∙◌, ℕ, Bool, true, false, List, Option, None, Some, IfNone, IfSome, ◌≢◌, inl, inr, sym, ap, subst}
 use Rattle.std.proofs.Math.Logic.{∥∥₁_elim}
 use Rattle.engine.specs.Links.{Heard, Piece, Ended, Broke}
 use Rattle.engine.specs.declared.ends.SessionEnd.{SessionEnd}
 use Rattle.engine.specs.declared.ends.SessionEnd.TheVariants as ends
+use Rattle.std.specs.Option.{option_map}
+use Rattle.crossbeam_channel.specs.Claims.{view}
+use Rattle.terms.specs.declared.limits.Limits.{Limits}
+use Rattle.terms.specs.declared.settings.Settings.{Settings}
+use Rattle.table_shared.specs.Histories.{Made}
 use Rattle.engine_turns.specs.Reads.{HasReadAll}
+use Rattle.engine_turns.specs.Shown.{queued_of, shown}
+use Rattle.engine_threads.specs.Ended.{EndsAs}
+use Rattle.engine_threads.specs.Served.{Behaviours, Ground, HasServed}
+use Rattle.engine_threads.specs.declared.ended.Account.{Account}
 use Rattle.engine_turns.specs.Verdicts.{KeepsNone, Progress, Queued, ReadsAs, Stops, and_then}
 
 -- some workers served
@@ -42,7 +51,21 @@ by_heard (Piece bytes) old end new (inr r) = by_lack old.kept end r.0
 by_heard Ended old end new r = subst ServesIn (sym r.0) tt
 by_heard Broke old end new r = subst ServesIn (sym r.0) tt
 
-pub some_input : {L : Type 0} (receives : L → Heard → L → Type 0) (from : Option L) (end : SessionEnd) (put : List Queued) (last_job : Option Queued) (is_handed_back : Bool) → ∥ HasReadAll receives from (Some end) put last_job is_handed_back ∥₁ → end ≢ ends.NoWorkers
-some_input receives from end put last_job is_handed_back h none = ∥∥₁_elim h (λ (a b : ⊥). absurd a) (λ (k : HasReadAll receives from (Some end) put last_job is_handed_back).
+pub some_input : {L : Type 0} (receives : L → Heard → L → Type 0) (from : Option L) (input : Option SessionEnd) (put : List Queued) (last_job : Option Queued) (left : L) → ∥ HasReadAll receives from input put last_job left ∥₁ → input ≢ Some ends.NoWorkers
+some_input receives from None put last_job left h none = cc none
+some_input receives from (Some end) put last_job left h none = ∥∥₁_elim h (λ (a b : ⊥). absurd a) (λ (k : HasReadAll receives from (Some end) put last_job left).
     let all = k.read.reads in
-    subst Serves none (by_heard all.ends.heard all.last.so_far end k.last.so_far all.ends.reads))
+    subst ServesIn none (by_heard all.ends.heard all.last.so_far end k.last all.ends.reads))
+
+-- a session that has ended like this has no input that ended so
+none_as : (input : Option SessionEnd) (is_broken : Bool) (end : SessionEnd) → EndsAs input is_broken end → end ≡ ends.NoWorkers → input ≡ Some ends.NoWorkers
+none_as input true end e n = (let both : ends.LinkBroken ≡ ends.NoWorkers = sym e ∙ n in absurd (cc both))
+none_as (Some over) false end e n = ap (λ (x : SessionEnd). Some x) (sym e ∙ n)
+none_as None false end e n = absurd e
+
+-- some workers served, or memory was refused
+pub never_none : {I O C : Type 0} (by : Behaviours I O C) (limits : Limits) (settings : Settings) (given back : Ground I O C) (account : Option Account) (end : SessionEnd)
+    → IfNone account (end ≡ ends.Memory) → IfSome account (λ (a : Account). EndsAs a.passed.input a.passed.is_broken end) → IfSome account (λ (a : Account). ∥ ((history : List Made) × HasServed by limits settings a.passed a.sums.totals given back history) ∥₁) → end ≢ ends.NoWorkers
+never_none by limits settings given back None end memory ended served none = (let both : ends.Memory ≡ ends.NoWorkers = sym memory ∙ none in cc both)
+never_none {I} {O} {C} by limits settings given back (Some a) end memory ended served none = ∥∥₁_elim served (λ (x y : ⊥). absurd x) (λ (k : (history : List Made) × HasServed by limits settings a.passed a.sums.totals given back history).
+    some_input by.receives (Some given.link_in) a.passed.input (queued_of (view a.passed.read.value).put) (option_map shown a.passed.last_job.value) back.link_in k.1.ran.reads (none_as a.passed.input a.passed.is_broken end ended none))

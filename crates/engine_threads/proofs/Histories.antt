@@ -1,13 +1,11 @@
 -- A history in which no begin has a reserved name keeps nodes with hidden marks at reserved names.
-use Rattle.std.proofs.Common.{ℕ, ◌==◌, ◌≡◌, Bool, true, false, List, [], ◌∷◌, ◌++◌, All, refl, sym, ap, ◌∙◌, subst}
+use Rattle.std.proofs.Common.{ℕ, ◌==◌, ◌≡◌, Bool, List, [], ◌∷◌, ◌++◌, All, refl, sym, ap, subst}
+use Rattle.std.proofs.Math.Logic.{∥∥₁_elim, ∥∥₁_map, ∥∥₁_map₂, ∥∥₁_prop}
 use Rattle.std.proofs.lemmas.Bool.{eq-eqb}
 use Rattle.std.proofs.lemmas.List.Elements.{All-cons, All-head, All-nil, All-same, All-tail}
-use Rattle.table_files.specs.declared.data.OpenFile.{OpenFile}
-use Rattle.table_hiding.specs.Hiding.{IsBegunUnreserved, KeepsHidden}
+use Rattle.table_hiding.specs.Hiding.{KeepsHidden}
 use Rattle.table_hiding.proofs.Keeping.{begins_keep, finishes_keep, forgets_keep, opened_keeps, settles_keep}
-use Rattle.table_requests.specs.declared.data.Want.{Want}
 use Rattle.table_steps.specs.World.{IsLawfulWorld, World, opened_world}
-use Rattle.table_steps.specs.declared.data.Begin.{Begin}
 use Rattle.table_steps.specs.declared.data.Begin.TheVariants.{Busy, Go, Refused}
 use Rattle.terms.specs.declared.limits.Limits.{Limits}
 use Rattle.table_shared.specs.Histories.{IsHistory, Made, calls_by, calls_if, unless_busy}
@@ -45,14 +43,16 @@ rest_of : (calls rest : List Call) → AreUnreserved (calls ++ rest) → AreUnre
 rest_of [] rest all = all
 rest_of (call ∷ calls) rest all = rest_of calls rest (All-tail IsUnreservedCall call (calls ++ rest) all)
 
-keeps_on : (start : World) (history : List Made) → KeepsHidden start → IsHistory start history → ((index : ℕ) → AreUnreserved (calls_by index history)) → All (λ (made : Made). KeepsHidden made.after) history
-keeps_on start [] keeps run all = All-nil (λ (made : Made). KeepsHidden made.after)
+keeps_on : (start : World) (history : List Made) → KeepsHidden start → IsHistory start history → ((index : ℕ) → ∥ AreUnreserved (calls_by index history) ∥₁) → ∥ All (λ (made : Made). KeepsHidden made.after) history ∥₁
+keeps_on start [] keeps run all = ∣ All-nil (λ (made : Made). KeepsHidden made.after) ∣₁
 keeps_on start (made ∷ history) keeps run all =
     let own : calls_if (made.by == made.by) made.call ≡ unless_busy made.call = ap (λ (b : Bool). calls_if b made.call) (eq-eqb made.by made.by refl) in
-    let told = All-same IsUnreservedCall (unless_busy made.call) (calls_if (made.by == made.by) made.call) (sym own) (first_of (calls_if (made.by == made.by) made.call) (calls_by made.by history) (all made.by)) in
-    let next = step_keeps start made.after made.call run.0 (begins_lawful made.after history run.2) keeps (told_is made.call told) run.1 in
-    All-cons (λ (made : Made). KeepsHidden made.after) made history next
-    (keeps_on made.after history next run.2 (λ index. rest_of (calls_if (made.by == index) made.call) (calls_by index history) (all index)))
+    let next : ∥ KeepsHidden made.after ∥₁ = ∥∥₁_map (all made.by) (λ (one : AreUnreserved (calls_by made.by (made ∷ history))).
+    let told = All-same IsUnreservedCall (unless_busy made.call) (calls_if (made.by == made.by) made.call) (sym own) (first_of (calls_if (made.by == made.by) made.call) (calls_by made.by history) one) in
+    step_keeps start made.after made.call run.0 (begins_lawful made.after history run.2) keeps (told_is made.call told) run.1) in
+    let rest : ∥ All (λ (made : Made). KeepsHidden made.after) history ∥₁ = ∥∥₁_elim next ∥∥₁_prop (λ (k : KeepsHidden made.after). keeps_on made.after history k run.2
+    (λ index. ∥∥₁_map (all index) (λ (one : AreUnreserved (calls_by index (made ∷ history))). rest_of (calls_if (made.by == index) made.call) (calls_by index history) one))) in
+    ∥∥₁_map₂ next rest (λ (k : KeepsHidden made.after) (r : All (λ (made : Made). KeepsHidden made.after) history). All-cons (λ (made : Made). KeepsHidden made.after) made history k r)
 
-pub history_keeps : (limits : Limits) (history : List Made) → IsHistory (opened_world limits) history → ((index : ℕ) → AreUnreserved (calls_by index history)) → All (λ (made : Made). KeepsHidden made.after) history
+pub history_keeps : (limits : Limits) (history : List Made) → IsHistory (opened_world limits) history → ((index : ℕ) → ∥ AreUnreserved (calls_by index history) ∥₁) → ∥ All (λ (made : Made). KeepsHidden made.after) history ∥₁
 history_keeps limits history run all = keeps_on (opened_world limits) history (opened_keeps limits) run all

@@ -1,9 +1,10 @@
-pub mod Chains
-pub mod Crossing
-pub mod Ends
-pub mod Lists
-pub mod Parting
-pub mod Sharing
-pub mod Unreserved
-pub mod Histories
-pub mod Served
+mod Beginnings
+mod Chains
+mod Checked
+mod Crossing
+mod Each
+mod Ends
+mod Histories
+mod Lists
+mod Served
+mod Unreserved

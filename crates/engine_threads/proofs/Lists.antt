@@ -1,11 +1,11 @@
 -- Lists that are processed in parallel.
-use Rattle.std.proofs.Common.{◌≡◌, ℕ, zero, suc, ◌+◌, List, [], ◌∷◌, ◌++◌, length, map, Option, Some, None, IfSome, Result, Ok, Err, IfOk, refl, sym, ap, ◌∙◌, subst, append_assoc, append-nil, arith}
+use Rattle.std.proofs.Common.{◌≡◌, ℕ, zero, suc, ◌+◌, List, [], ◌∷◌, ◌++◌, length, map, Option, Some, None, IfNone, IfSome, Result, Ok, Err, IfOk, refl, sym, ap, ◌∙◌, subst, append_assoc, append-nil, arith}
 use Rattle.std.specs.List.{All, range_with_len}
 use Rattle.std.specs.Result.{result_ok}
 use Rattle.std.proofs.lemmas.Option.{none-some}
 use Rattle.std.proofs.lemmas.List.{map-append}
 use Rattle.ledger.specs.Shares.{Part, nothing}
-use Rattle.std.proofs.lemmas.List.Elements.{All-cons, All-head, All-nil, All-push, All-rest, All-same}
+use Rattle.std.proofs.lemmas.List.Elements.{All-cons, All-head, All-nil, All-push, All-rest, All-same, All-tail}
 
 -- the last element of a mapped list
 pub map_last : {X V : Type 0} (f : X → V) (xs : List X) (x : X) → map f (xs ++ x ∷ []) ≡ map f xs ++ f x ∷ []
@@ -93,6 +93,23 @@ last_same (a ∷ xs) (b ∷ ys) x y e =
     let rest = last_same xs ys x y tails in
     (ap (λ l. a ∷ l) rest.0 ∙ ap (λ k. k ∷ ys) heads, rest.1)
 
+-- the last element of a list that was made from the numbers from 0 on
+pub last_one : {V : Type 0} (f : ℕ → V) (n : ℕ) (all rest : List V) (last : V) → all ≡ map f (range_with_len 0 (n + 1)) → all ≡ rest ++ last ∷ [] → (rest ≡ map f (range_with_len 0 n)) × (last ≡ f n)
+last_one f n all rest last made cut =
+    let more : n + 1 ≡ suc n = omega arith in
+    let this : 0 + n ≡ n = omega arith in
+    let whole = made ∙ (ap (λ k. map f (range_with_len 0 k)) more ∙ (ap (map f) (range_more 0 n) ∙ map_last f (range_with_len 0 n) (0 + n))) in
+    let first = last_same rest (map f (range_with_len 0 n)) last (f (0 + n)) (sym cut ∙ whole) in
+    (first.0, first.1 ∙ ap f this)
+
+pub range_length : (a n : ℕ) → length (range_with_len a n) ≡ n
+range_length a zero = refl
+range_length a (suc n) = ap suc (range_length (a + 1) n)
+
+pub map_length : {X V : Type 0} (f : X → V) (xs : List X) → length (map f xs) ≡ length xs
+map_length f [] = refl
+map_length f (x ∷ xs) = ap suc (map_length f xs)
+
 -- the last two elements of a list that was made from the numbers from 0 on
 pub last_two : {V : Type 0} (f : ℕ → V) (n : ℕ) (all most rest : List V) (one last : V) → all ≡ map f (range_with_len 0 (n + 2)) → all ≡ most ++ last ∷ [] → most ≡ rest ++ one ∷ [] → (rest ≡ map f (range_with_len 0 n)) × (one ≡ f n) × (last ≡ f (n + 1))
 last_two f n all most rest one last made cut again =
@@ -112,3 +129,26 @@ some_same R Q x (Some a) h q = subst Q (sym h.0) q
 pub some_so : {A : Type 0} (P Q : A → Type 0) (o : Option A) → ((a : A) → P a → Q a) → IfSome o P → IfSome o Q
 some_so P Q None f h = tt
 some_so P Q (Some a) f h = f a h
+
+-- what each has leads to something else that each has
+pub all_so : {X : Type 0} (P Q : X → Type 0) (xs : List X) → ((x : X) → P x → Q x) → All P xs → All Q xs
+all_so P Q [] f all = All-nil Q
+all_so P Q (x ∷ xs) f all = All-cons Q x xs (f x (All-head P x xs all)) (all_so P Q xs f (All-tail P x xs all))
+
+-- the next of those that are numbered from n on
+pub next_number : {X : Type 0} (f : X → ℕ) (x : X) (from rest : List X) (n : ℕ) → from ≡ x ∷ rest → map f from ≡ range_with_len n (length from) → (f x ≡ n) × (map f rest ≡ range_with_len (n + 1) (length rest))
+next_number {X} f x from rest n s e =
+    let both : f x ∷ map f rest ≡ n ∷ range_with_len (n + 1) (length rest) = ap (map f) (sym s) ∙ (e ∙ ap (λ (l : List X). range_with_len n (length l)) s) in
+    (cc both, cc both)
+
+-- one more of a list, from before to after
+pub moved_on : {X : Type 0} (whole before left rest : List X) (x : X) → whole ≡ before ++ left → left ≡ x ∷ rest → whole ≡ (before ++ x ∷ []) ++ rest
+moved_on {X} whole before left rest x w l = w ∙ (ap (λ (r : List X). before ++ r) l ∙ sym (append_assoc before (x ∷ []) rest))
+
+pub none_so : {A : Type 0} (P Q : Type 0) (o : Option A) → IfNone o (P × Q) → IfNone o P
+none_so P Q None h = h.0
+none_so P Q (Some a) h = tt
+
+pub none_never : {A : Type 0} (P : Type 0) (o : Option A) → IfNone o ⊥ → IfNone o P
+none_never P None h = absurd h
+none_never P (Some a) h = tt

@@ -1,17 +1,14 @@
 -- No call of a session on threads begins a request with a reserved name.
-use Rattle.std.proofs.Common.{ℕ, suc, ◌+◌, ◌<◌, ◌≤◌, ◌≡◌, ◌⊎◌, Bool, true, false, List, [], ◌∷◌, ◌++◌, All, Option, Some, None, flat_map, length, map, refl, sym, ap, ◌∙◌, subst, inl, inr, arith, append_assoc}
-use Rattle.std.specs.List.{range_with_len}
+use Rattle.std.proofs.Common.{ℕ, ◌+◌, ◌≤◌, ◌≡◌, Bool, true, false, List, [], ◌∷◌, All, Option, Some, None, flat_map, length, refl, sym, subst, inl, inr, arith}
 use Rattle.std.proofs.lemmas.Bool.{cases_eq, cases_lt}
-use Rattle.std.proofs.lemmas.List.{map-append}
 use Rattle.std.proofs.lemmas.List.Elements.{All-append, All-cons, All-nil, All-same}
 use Rattle.crossbeam_channel.specs.Claims.{view}
+use Rattle.std.proofs.Math.Logic.{∥∥₁_map}
 use Rattle.ledger.specs.Shares.{Part}
 use Rattle.table_hiding.specs.Hiding.{IsBegunUnreserved}
 use Rattle.table_hiding.proofs.Keeping.{begun_unreserved}
 use Rattle.table_steps.specs.Answers.{Answer, Settlement}
-use Rattle.table_steps.specs.declared.data.Begin.{Begin}
 use Rattle.table_steps.specs.declared.data.Begin.TheVariants.{Busy, Go, Refused}
-use Rattle.table_requests.specs.declared.data.Want.{Want}
 use Rattle.table_shared.specs.Histories.{unless_busy}
 use Rattle.table_shared.specs.Runs.{Call, began, finished, forgot, looked, settled}
 use Rattle.terms.specs.declared.settings.Settings.{Settings}
@@ -24,19 +21,15 @@ use Rattle.engine.specs.declared.links.Sent.{Sent}
 use Rattle.engine.proofs.Carrying.{Carries, frame_carried}
 use Rattle.engine_queues.specs.declared.job.Job.{Job}
 use Rattle.engine_queues.specs.declared.left.Left.{Left}
-use Rattle.engine_queues.specs.Gathered.{numbers_of}
 use Rattle.engine_queues.specs.declared.replies.QueuedReply.{QueuedReply}
-use Rattle.engine_queues.specs.declared.replies.ReplyLane.{ReplyLane}
 use Rattle.engine_queues.specs.declared.passes.Passes.{Passes}
-use Rattle.engine_turns.specs.Writes.{HasWrittenAll, unsent, writing}
+use Rattle.engine_turns.specs.Writes.{HasWritten, unsent}
 use Rattle.engine_turns.specs.TableCalls.{Fresh, Given, Known, OnTable, Settled, TurnEnd, left_in, settlement_of, settling, then_made, known_table}
 use Rattle.engine_turns.specs.Batches.{WritesOne, Writing}
 use Rattle.engine_turns.specs.Rights.{IsJobHandled}
-use Rattle.engine_turns.specs.Turns.{AnswersJob, Ending, IsEnded, Met, Offers, Outbox, PutsReply, Standing, Worked, ending, handed_back, is_put, means, none, outbox, settles_of, standing, takes}
-use Rattle.engine_turns.specs.Works.{WorkedAll, newcomer}
+use Rattle.engine_turns.specs.Turns.{AnswersJob, Ending, IsEnded, Met, Offers, Outbox, PutsReply, Standing, ending, handed_back, is_put, none, settles_of, takes}
 use Rattle.engine_turns.specs.declared.replies.JobReply.{JobReply}
-use Rattle.engine_threads.specs.Worked.{AnswersLastJob, CoordinatorAnswers, HasWorkedFrom, WorkedEach, made_by}
-use Rattle.engine_threads.proofs.Lists.{last_same, range_more}
+use Rattle.engine_threads.specs.Worked.{AnswersLast, HasWorkedFrom, Stand, WorkedAt, WorkedEach, WorksOne, beside, made_by, newcomer, stand}
 
 -- a begin, if the call is one, has no reserved name
 abbrev pub IsUnreservedCall : Call → Type 0
@@ -111,48 +104,19 @@ module _ {C D : Type 0} (does : Behaviour C D) (settings : Settings) where
       let puts = puts_unreserved settings from job it.met old.out (ending done it.puts.folders it.puts.calls) new.out it.puts.so in
       subst (λ (t : OnTable). AreUnreserved t.calls) (sym it.puts.on_table) (All-append IsUnreservedCall it.handled.calls it.puts.calls handled puts)
 
-  works_unreserved : (from : ℕ) (all : List (Option Settlement)) (old new : Standing C D) → WorkedAll does settings from old all new → AreUnreserved old.means.on_table.calls → AreUnreserved new.means.on_table.calls
-  works_unreserved from [] old new same so = subst (λ (s : Standing C D). AreUnreserved s.means.on_table.calls) (sym same) so
-  works_unreserved from (one ∷ all) old new (mid, worked, rest) so =
-      works_unreserved from all mid new rest (answers_unreserved from worked.job (takes old worked.job) one mid worked.answers so)
+  works_unreserved : (from : ℕ) (all : List (Option Settlement)) (old new : Stand C) → Chain (WorksOne does settings from) old all new → AreUnreserved old.on_table.calls → AreUnreserved new.on_table.calls
+  works_unreserved from [] old new same so = subst (λ (s : Stand C). AreUnreserved s.on_table.calls) (sym same) so
+  works_unreserved from (one ∷ all) old new (mid, w, rest) so =
+      works_unreserved from all mid new rest (answers_unreserved from w.worked.job (takes (beside old w.dirs) w.worked.job) one (beside mid w.dirs') w.worked.answers so)
 
-  worked_unreserved : (given : C) (passes : Passes Job JobReply) (back : ℕ) (left : C) (share : Part) (on_table : OnTable) → HasWorkedFrom does settings given passes back left share on_table → AreUnreserved on_table.calls
-  worked_unreserved given passes back left share on_table it =
-      works_unreserved passes.number it.worked.settled (newcomer passes.number given it.worked.dirs it.worked.share)
-      (standing (view passes.job_pass) (outbox (view passes.reply_pass) back) (means (record { calls = left; dirs = it.dirs }) share on_table)) it.worked.works no_calls
+  last_unreserved : (from : ℕ) (last_job : Option Job) (old new : Stand C) → AnswersLast does settings from last_job old new → AreUnreserved old.on_table.calls → AreUnreserved new.on_table.calls
+  last_unreserved from None old new same so = subst (λ (s : Stand C). AreUnreserved s.on_table.calls) (sym same) so
+  last_unreserved from (Some job) old new it so = answers_unreserved from job (beside old it.dirs) it.settled (beside new it.dirs') it.answers so
 
-  -- each worker, the first of which has this number
-  each_unreserved : (calls_by : ℕ → List Call) (given : List C) (passes : List (Passes Job JobReply)) (backs : List ℕ) (from count : ℕ) → count ≡ length given → numbers_of passes ≡ range_with_len from (suc count)
-      → WorkedEach does settings calls_by given passes backs → (index : ℕ) → from ≤ index → index < from + count → AreUnreserved (calls_by index)
-  each_unreserved calls_by [] passes backs from count all numbers it index above below = absurd (omega (arith, all))
-  each_unreserved calls_by (calls ∷ given) [] backs from count all numbers it index above below = absurd it
-  each_unreserved calls_by (calls ∷ given) (one ∷ passes) [] from count all numbers it index above below = absurd it
-  each_unreserved calls_by (calls ∷ given) (one ∷ passes) (back ∷ backs) from count all numbers (worked, rest) index above below = elim (cases_eq from index) [
-    | inl e ↦
-        let same : one.number ≡ index = cc in
-        subst (λ k. AreUnreserved (calls_by k)) same (worked_unreserved calls one back worked.0 worked.1 (made_by calls_by one.number) worked.2)
-    | inr ne ↦
-        let fewer : count ≡ suc (length given) = omega (arith, all) in
-        let others : numbers_of passes ≡ range_with_len (from + 1) (suc (length given)) = (let e : one.number ∷ numbers_of passes ≡ from ∷ range_with_len (from + 1) (suc (length given)) = subst (λ k. numbers_of (one ∷ passes) ≡ range_with_len from (suc k)) fewer numbers in cc e) in
-        each_unreserved calls_by given passes backs (from + 1) (length given) refl others rest index (omega arith) (omega (arith, fewer))
-  ]
-
-  -- the coordinator
-  ends_unreserved : (calls_by : ℕ → List Call) (last_job : Option Job) (calls : C) (share : Part) (passes : Passes Job JobReply) (back : ℕ) → AnswersLastJob does settings last_job calls share passes back (made_by calls_by passes.number) → AreUnreserved (calls_by passes.number)
-  ends_unreserved calls_by None calls share passes back it = All-same IsUnreservedCall (calls_by passes.number) [] (ap (λ (t : OnTable). t.calls) it.2) no_calls
-  ends_unreserved calls_by (Some job) calls share passes back it =
-      answers_unreserved passes.number job (newcomer passes.number calls it.dirs share) it.settled
-      (standing (view passes.job_pass) (outbox (view passes.reply_pass) back) (means it.served it.gained (made_by calls_by passes.number))) it.answers no_calls
-
-  last_job_unreserved : (calls_by : ℕ → List Call) (given : List C) (last_job : Option Job) (passes : List (Passes Job JobReply)) (backs : List ℕ) (count : ℕ) → numbers_of passes ≡ range_with_len 0 (suc count)
-      → CoordinatorAnswers does settings calls_by given last_job passes backs → AreUnreserved (calls_by count)
-  last_job_unreserved calls_by given last_job passes backs count numbers it =
-      let number = λ (p : Passes Job JobReply). p.number in
-      let cut : passes ≡ (it.workers ++ it.worker ∷ []) ++ it.own ∷ [] = it.passes_are ∙ sym (append_assoc it.workers (it.worker ∷ []) (it.own ∷ [])) in
-      let parts : numbers_of passes ≡ numbers_of (it.workers ++ it.worker ∷ []) ++ it.own.number ∷ [] = ap (map number) cut ∙ map-append number (it.workers ++ it.worker ∷ []) (it.own ∷ []) in
-      let same = last_same (numbers_of (it.workers ++ it.worker ∷ [])) (range_with_len 0 count) it.own.number (0 + count) (sym parts ∙ (numbers ∙ range_more 0 count)) in
-      let own : it.own.number ≡ count = omega (arith, same.1) in
-      subst (λ k. AreUnreserved (calls_by k)) own (ends_unreserved calls_by last_job it.left it.share it.own it.own_back it.ends)
+  worked_unreserved : (number : ℕ) (first : C) (last_job : Option Job) (passes : Passes Job JobReply) (left : C) (share : Part) (on_table : OnTable) → HasWorkedFrom does settings number first last_job passes left share on_table → AreUnreserved on_table.calls
+  worked_unreserved number first last_job passes left share on_table it =
+      last_unreserved number last_job it.before (stand (view passes.job_pass) (view passes.reply_pass) left share on_table) it.last
+      (works_unreserved number it.worked.works.settled (newcomer number first it.worked.share) it.before it.worked.works.works no_calls)
 
 -- ---- the writer
 
@@ -168,27 +132,30 @@ module _ {L : Type 0} (sends : L → List ℕ → Sent → L → Type 0) where
   writes_unreserved [] old new same = no_calls
   writes_unreserved (turn ∷ turns) old new (mid, wrote, rest) =
       All-append IsUnreservedCall turn.on_table (flat_map (λ (turn : Ending). turn.on_table) turns)
-      (offers_unreserved wrote.thread_log turn old.link mid.link old.is_broken mid.is_broken wrote.offers) (writes_unreserved turns mid new rest)
+      (offers_unreserved wrote.queued_reply turn old.link mid.link old.is_broken mid.is_broken wrote.offers) (writes_unreserved turns mid new rest)
 
-  pub written_unreserved : (from : Option L) (senders : ℕ) (on_table : OnTable) (lane : ReplyLane JobReply) (broken : Bool) → HasWrittenAll sends from senders on_table lane broken → AreUnreserved on_table.calls
-  written_unreserved from senders on_table lane broken it =
-      let w = it.written in
-      let all = All-same IsUnreservedCall w.all.on_table (flat_map (λ (turn : Ending). turn.on_table) w.writes.turns) w.writes.all_are.on_table_are (writes_unreserved w.writes.turns (unsent w.link senders) (writing lane it.last broken) w.writes.chain) in
+  pub written_unreserved : (from : Option L) (senders : ℕ) (on_table : OnTable) (now : Writing L) → HasWritten sends from senders on_table now → AreUnreserved on_table.calls
+  written_unreserved from senders on_table now w =
+      let all = All-same IsUnreservedCall w.all.on_table (flat_map (λ (turn : Ending). turn.on_table) w.writes.turns) w.writes.all_are.on_table_are (writes_unreserved w.writes.turns (unsent w.link senders) now w.writes.chain) in
       subst (λ (t : OnTable). AreUnreserved t.calls) (sym w.calls_are) all
 
 -- ---- all threads
 
-module _ {C D O : Type 0} (does : Behaviour C D) (sends : O → List ℕ → Sent → O → Type 0) (settings : Settings) (calls_by : ℕ → List Call) (given : List C) where
-  pub all_unreserved : (passes : List (Passes Job JobReply)) (backs : List ℕ) (last_job : Option Job) (from : Option O) (lane : ReplyLane JobReply) (broken : Bool) → numbers_of passes ≡ range_with_len 0 (suc (length given))
-      → WorkedEach does settings calls_by given passes backs → CoordinatorAnswers does settings calls_by given last_job passes backs → HasWrittenAll sends from (length given + 1) (made_by calls_by (length given + 1)) lane broken
-      → ((index : ℕ) → length given + 2 ≤ index → calls_by index ≡ []) → (index : ℕ) → AreUnreserved (calls_by index)
-  all_unreserved passes backs last_job from lane broken numbers worked answers_last written nobody index = elim (cases_lt index (length given)) [
-    | inl below ↦ each_unreserved does settings calls_by given passes backs 0 (length given) refl numbers worked index (omega arith) (omega arith)
-    | inr above ↦ elim (cases_eq (length given) index) [
-      | inl coordinator ↦ subst (λ k. AreUnreserved (calls_by k)) coordinator (last_job_unreserved does settings calls_by given last_job passes backs (length given) numbers answers_last)
-      | inr other ↦ elim (cases_eq (length given + 1) index) [
-        | inl writer ↦ subst (λ k. AreUnreserved (calls_by k)) writer (written_unreserved sends from (length given + 1) (made_by calls_by (length given + 1)) lane broken written)
-        | inr another ↦ All-same IsUnreservedCall (calls_by index) [] (nobody index (omega arith)) no_calls
+module _ {C D O : Type 0} (does : Behaviour C D) (sends : O → List ℕ → Sent → O → Type 0) (settings : Option Settings) (calls_by : ℕ → List Call) (given : List C) where
+  at_unreserved : (last_job : Option Job) (passes : List (Passes Job JobReply)) (lefts : List C) (n : ℕ) → ∥ WorkedAt does settings calls_by last_job given passes lefts n ∥₁ → ∥ AreUnreserved (calls_by n) ∥₁
+  at_unreserved last_job passes lefts n h = ∥∥₁_map h (λ (k : WorkedAt does settings calls_by last_job given passes lefts n).
+      worked_unreserved does k.ended.of k.own.number k.ended.first last_job k.own k.left k.share (made_by calls_by n) k.ended.worked)
+
+  pub all_unreserved : (passes : List (Passes Job JobReply)) (lefts : List C) (last_job : Option Job) (from : Option O) (now : Writing O)
+      → WorkedEach does settings calls_by last_job given passes lefts → ∥ HasWritten sends from (length given) (made_by calls_by (length given)) now ∥₁
+      → ((index : ℕ) → length given + 1 ≤ index → calls_by index ≡ []) → (index : ℕ) → ∥ AreUnreserved (calls_by index) ∥₁
+  all_unreserved passes lefts last_job from now worked written nobody index = elim (cases_lt (index + 1) (length given)) [
+    | inl other ↦ at_unreserved None passes lefts index (worked.others index other)
+    | inr above ↦ elim (cases_eq (index + 1) (length given)) [
+      | inl last ↦ at_unreserved last_job passes lefts index (worked.last index last)
+      | inr beyond ↦ elim (cases_eq (length given) index) [
+        | inl writer ↦ subst (λ k. ∥ AreUnreserved (calls_by k) ∥₁) writer (∥∥₁_map written (λ (w : HasWritten sends from (length given) (made_by calls_by (length given)) now). written_unreserved sends from (length given) (made_by calls_by (length given)) now w))
+        | inr another ↦ ∣ All-same IsUnreservedCall (calls_by index) [] (nobody index (omega arith)) no_calls ∣₁
       ]
     ]
   ]

@@ -1,5 +1,5 @@
 -- The result of a session on threads.
-use Rattle.std.specs.Prelude.{◌≡◌, ℕ, Bool, true, false, List, [], ◌∷◌, ◌++◌, length, map, Option, Some, None}
+use Rattle.std.specs.Prelude.{◌≡◌, ℕ, Bool, true, false, List, length, map, Option, Some, None}
 use Rattle.std.specs.List.{flat_map}
 use Rattle.ledger.specs.Shares.{Part, sum_of}
 use Rattle.ledger.specs.Sums.{totals_over}
@@ -9,10 +9,9 @@ use Rattle.engine.specs.declared.ends.SessionEnd.{SessionEnd}
 use Rattle.engine.specs.declared.ends.SessionEnd.TheVariants.{LinkBroken}
 use Rattle.engine_queues.specs.declared.job.Job.{Job}
 use Rattle.engine_queues.specs.Gathered.{puts_of, takings_of}
-use Rattle.engine_queues.specs.Jobs.{Accounts, numbers}
-use Rattle.engine_queues.specs.Replies.{IsWhole}
+use Rattle.engine_queues.specs.Jobs.{AreTaken, numbers}
+use Rattle.engine_queues.specs.Replies.{AreGot}
 use Rattle.engine_queues.specs.declared.jobs.Hand.{Hand}
-use Rattle.engine_queues.specs.declared.replies.QueuedReply.{QueuedReply}
 use Rattle.engine_queues.specs.declared.replies.ReplyLane.{ReplyLane}
 use Rattle.engine_queues.specs.declared.passes.Passes.{Passes}
 use Rattle.engine_turns.specs.declared.replies.JobReply.{JobReply}
@@ -25,10 +24,9 @@ pub record IsGathered (totals : Totals) : Type 0 where
   pub shares : List Part
   pub sums : totals ≡ sum_of shares
 
--- how many jobs each worker took; the coordinator comes last
-pub record AreCounts {J : Type 0} (taken : List ℕ) (takings : List (List J)) : Type 0 where
-  pub own : ℕ
-  pub all : taken ++ own ∷ [] ≡ map (λ js. length js) takings
+-- how many jobs each worker took
+abbrev pub AreCounts : {J : Type 0} → List ℕ → List (List J) → Type 0
+AreCounts taken takings = taken ≡ map (λ js. length js) takings
 
 -- How a session ended: if the link broke when a reply was offered, that is the end, whatever else happened; otherwise a
 -- receive ended it like this. Reading is stopped early only for such a break, so one of the two is the case.
@@ -37,12 +35,10 @@ EndsAs input true end = end ≡ LinkBroken
 EndsAs (Some over) false end = end ≡ over
 EndsAs None false end = ⊥
 
--- The jobs that were read are numbered from 0, in the order in which they were queued. Each was taken by one of these or is left, as often as
--- it was read: so the ordinals of those taken and of those left are the numbers below how many there are, each once. And of the replies of
--- each of these the writer got the first ones, in their order, and the others are left.
+-- The jobs that were read are numbered from 0, in the order in which they were queued. Each was taken by one of these, and none is left: so the
+-- ordinals of those taken are the numbers below how many there are, each once. And the replies of each of these are what the writer got of
+-- it, in their order, and none is left.
 pub record IsShared (read : Hand Job) (passes : List (Passes Job JobReply)) (written : ReplyLane JobReply) : Type 0 where
   pub numbered : map (λ (j : Job). j.ordinal) read.put ≡ numbers 0 (length read.put)
-  pub jobs_left : List Job
-  pub jobs : Accounts read.put (flat_map (λ js. js) (takings_of passes)) jobs_left
-  pub replies_left : List (QueuedReply JobReply)
-  pub replies : IsWhole (puts_of passes) written.got replies_left
+  pub jobs : AreTaken read.put (flat_map (λ js. js) (takings_of passes))
+  pub replies : AreGot (puts_of passes) written.got

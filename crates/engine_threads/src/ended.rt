@@ -1,12 +1,14 @@
 //! The result of a session on threads.
 
-ghost use Rattle.std.specs.Prelude.{◌≡◌, ◌<◌, ◌+◌, [], length, map, None, Some, IfSome, vec_len};
+ghost use Rattle.std.specs.Prelude.{◌≡◌};
 ghost use Rattle.ledger.specs.Sums.{totals_over};
 ghost use Rattle.table_steps.specs.Kept.{world_of};
 ghost use Rattle.engine_queues.specs.Gathered.{takings_of};
-ghost use Rattle.engine_threads.specs.Ended.{AreCounts, IsGathered};
+ghost use Rattle.engine_threads.specs.Ended.{AreCounts, EndsAs, IsGathered};
 
-use engine::SessionEnd;
+use crate::given::Given;
+use backing::Calls;
+use engine::{LinkIn, LinkOut, SessionEnd};
 use engine_queues::Job;
 use engine_queues::jobs::JobPass;
 use engine_queues::passes::Passes;
@@ -14,6 +16,7 @@ use engine_queues::replies::ReplyPass;
 use engine_turns::JobReply;
 use ledger::{Ledgers, Share, Totals};
 use std::snapshot::Snapshot;
+use std::sync::Wait;
 use table::Table;
 
 /// The sum of all threads' shares, which is the total of the table's ledger. Only gathering a table makes it.
@@ -24,14 +27,21 @@ pub struct Sums {
 }
 
 impl Sums {
-    /// Adds up the shares. None means that one is missing.
-    pub(crate) fn gather<T: Ledgers>(table: Table<T>, shares: Vec<Share<T>>) -> Option<Sums>
-        ensures { IfSome result (λ sums. sums.totals ≡ totals_over (world_of table).postings) }
+    /// Adds up the shares. It would wait forever if one were missing.
+    pub(crate) fn gather<H: Wait, T: Ledgers>(
+        rt: &H,
+        table: Table<T>,
+        shares: Vec<Share<T>>,
+    ) -> Sums
+        ensures { result.totals ≡ totals_over (world_of table).postings }
     {
         table.attest(); // proof: its law
         match table.gather(shares) {
-            Ok(totals) => Some(Sums { totals }),
-            Err(_) => None,
+            Ok(totals) => Sums { totals },
+            Err(_) => {
+                for _ in rt.forever() {}
+                unreachable!()
+            }
         }
     }
 
@@ -58,13 +68,26 @@ pub struct Passed {
     pub last_job: Snapshot<Option<Job>>,
     /// The replies that the writer took.
     pub written: Snapshot<ReplyPass<JobReply>>,
-    /// Which jobs each worker took, and which replies it put. The coordinator, which answers the last frame and takes
-    /// no job, comes last.
+    /// Which jobs each worker took, and which replies it put.
     pub passes: Snapshot<Vec<Passes<Job, JobReply>>>,
-    /// How many replies of each of these the queue returned.
-    pub handed_back: Vec<u64>,
-    /// Whether the job queue returned a job to the reader.
-    pub is_job_handed_back: bool,
+}
+
+impl Passed {
+    /// How a session ended: if the link broke, that is the end, whatever else happened. It would wait forever if nothing had ended it.
+    pub(crate) fn end<H: Wait>(&self, rt: &H) -> SessionEnd
+        ensures { EndsAs self.now.input self.now.is_broken result }
+    {
+        if self.is_broken {
+            return SessionEnd::LinkBroken;
+        }
+        match self.input {
+            Some(end) => end,
+            None => {
+                for _ in rt.forever() {}
+                unreachable!()
+            }
+        }
+    }
 }
 
 /// What was served.
@@ -75,41 +98,16 @@ pub struct Account {
     /// How many jobs each worker took.
     pub taken: Vec<u64>,
     pub passed: Passed,
-    pub ghost counted: { ∥ AreCounts taken.items (takings_of passed.passes.value.items) ∥₁ },
-}
-
-impl Account {
-    /// What was served, given the counts of all who took jobs.
-    pub(crate) fn new(sums: Sums, counts: Vec<u64>, passed: Passed) -> Account
-        requires some { 0 < vec_len counts }
-        requires counts { counts.items ≡ map (λ js. length js) (takings_of passed.passes.value.items) }
-        ensures sums { result.sums ≡ sums }
-        ensures taken { vec_len result.taken + 1 ≡ vec_len counts }
-        ensures passed { result.passed ≡ passed }
-    {
-        let mut taken = counts;
-        let _own = taken.pop();
-        Account {
-            sums,
-            taken,
-            passed,
-        }
-    }
+    pub ghost counted: { AreCounts taken.items (takings_of passed.passes.value.items) },
 }
 
 /// How a session on threads ended.
 #[derive(Drop)]
-pub struct Ended {
+pub struct Ended<I: LinkIn + Drop, O: LinkOut + Drop, C: Calls + Drop> {
     pub end: SessionEnd,
-    /// None means that nothing was served: memory or a thread was refused, or there were no workers.
+    /// The links and the directories as the session left them.
+    pub back: Given<I, O, C>,
+    /// None means that nothing was served, since memory was refused before anything was received, or since there were not 1 to 4
+    /// directories.
     pub account: Option<Account>,
-}
-
-impl Ended {
-    /// Nothing was served.
-    pub(crate) fn unserved(end: SessionEnd) -> Ended
-        ensures { (result.end ≡ end) × (result.account ≡ None) }
-    {
-        Ended { end, account: None }
-    }
 }

@@ -1,21 +1,26 @@
-//! A session on one to four threads. Each takes whichever turn is due: it offers replies, works on a job, or reads.
+//! A session on 1 to 4 threads: what it needs is made first, then its threads take turns, and at the end what is left of them is
+//! gathered.
 #![tactic(auto)]
 
-mod end_buffers;
+mod alone;
 mod ended;
-mod ending;
-mod last_job;
-mod leaving;
-mod making_workers;
+mod finishing;
+mod given;
+mod left;
+mod origins;
+mod preparing;
 mod queue_ends;
-mod queued;
+mod resting;
 mod running;
 mod serving;
 mod session_state;
-mod starting;
-mod thread_logs;
+mod threads;
 mod turns;
+mod waiting;
+mod worker_end;
+mod worker_role;
 mod working;
 
 pub use ended::{Account, Ended, Passed, Sums};
+pub use given::Given;
 pub use serving::serve_threads;

@@ -1,22 +1,23 @@
 //! The two queues of a session, and their ends.
 
-ghost use Rattle.std.specs.Prelude.{◌≡◌, ◌<◌, [], true, false, length, None, IfSome};
+ghost use Rattle.std.specs.Prelude.{◌≡◌, ◌<◌, ◌≤◌, ◌+◌, [], false, length, None, Some, IfSome};
 ghost use Rattle.crossbeam_channel.specs.Claims.{view, IsSeatAt};
 ghost use Rattle.crossbeam_channel.specs.Ends.{sends_on, receives_on};
 ghost use Rattle.engine_queues.specs.Jobs.{hand};
+ghost use Rattle.engine_queues.specs.Replies.{sender};
 ghost use Rattle.engine_turns.specs.Writes.{none_got};
+ghost use Rattle.engine_threads.specs.Beginning.{IsNewWorker, IsUnread};
 
-use crate::last_job::Coordinator;
 use crate::turns::JOINED;
 use crossbeam_channel::bounded_with;
 use engine::Settings;
 use engine_queues::Job;
-use engine_queues::jobs::{Fair, Hand, JobPass, JobReceiver, JobSender};
+use engine_queues::jobs::{Cut, Fair, Hand, JobPass, JobReceiver, JobSender};
+use engine_queues::passes::Passes;
 use engine_queues::replies::{
-    InOrder, QueuedReply, ReplyLane, ReplyPass, ReplyReceiver, ReplySender,
+    InOrder, QueuedReply, ReplyLane, ReplyPass, ReplyReceiver, ReplySender, Roles,
 };
-use engine_turns::{JobReply, READ_AT_ONCE, Reader, Shares, ThreadShare, Writer};
-use ledger::Ledgers;
+use engine_turns::{JobReply, READ_AT_ONCE, Reader, Worker, Writer};
 use std::alloc::Global;
 use wire::HEADER_LEN;
 
@@ -46,154 +47,183 @@ impl Drop for Senders {
     }
 }
 
-/// The ends from which they are taken, and the first pass of each queue, from which all others are made.
-pub struct Receivers {
+/// The job queue from which nothing was taken, with all its passes but those of `made` workers.
+pub struct JobEnds {
+    pub jobs: JobSender<Job>,
     pub work: JobReceiver<Job>,
     pub read: JobPass<Job>,
-    pub writes: ReplyReceiver<JobReply>,
-    pub written: ReplyPass<JobReply>,
+    pub made: u64,
+    ghost one_queue: { receives_on work ≡ sends_on jobs },
+    ghost seat: { IsSeatAt (sends_on jobs) read },
+    ghost unread: { ((view read).put ≡ []) × (length (view read).taken ≡ 0) },
+    ghost parts: { (view read).parts + made ≡ 8 },
 }
 
-impl Drop for Receivers {
+impl Drop for JobEnds {
     // This is a call for the same reason as for the senders.
     fn drop(self) {
-        let Receivers {
+        let JobEnds {
+            jobs: _,
             work: _,
             read: _,
+            made: _,
+        } = self;
+    }
+}
+
+/// The reply queue from which nothing was taken, of which `made` workers have a pass.
+pub struct ReplyEnds {
+    pub replies: ReplySender<JobReply>,
+    pub writes: ReplyReceiver<JobReply>,
+    pub written: ReplyPass<JobReply>,
+    pub made: u64,
+    ghost one_queue: { receives_on writes ≡ sends_on replies },
+    ghost seat: { IsSeatAt (sends_on replies) written },
+    ghost unwritten: { view written ≡ none_got made },
+}
+
+impl Drop for ReplyEnds {
+    // This is a call for the same reason as for the senders.
+    fn drop(self) {
+        let ReplyEnds {
+            replies: _,
             writes: _,
             written: _,
+            made: _,
         } = self;
     }
 }
 
-/// The receiving ends of the queues other than the workers', with the writer's share.
+/// The end into which jobs are put, and the reader.
 #[derive(Drop)]
-pub struct Ends<T: Ledgers> {
-    pub coordinator: Coordinator,
+pub struct JobSide {
+    pub jobs: JobSender<Job>,
     pub reader: Reader,
+}
+
+/// The end into which replies are put, and the writer.
+#[derive(Drop)]
+pub struct ReplySide {
+    pub replies: ReplySender<JobReply>,
     pub writer: Writer,
-    pub kept: ThreadShare<T>,
 }
 
-/// An empty job queue: both ends, and the pass that has put and taken nothing. None means that memory was refused.
-fn job_queue(alloc: Global) -> Option<(JobSender<Job>, JobReceiver<Job>, JobPass<Job>)>
-    ensures { IfSome result (λ q. (receives_on q.1 ≡ sends_on q.0) × IsSeatAt (sends_on q.0) q.2 × (view q.2 ≡ hand 8 [] [])) }
-{
-    bounded_with::<Option<Job>, Hand<Job>, Fair, Global>(alloc, JOBS).ok()
-}
-
-/// An empty reply queue: both ends, and the pass that has taken nothing and from which no sender's pass was made. None
-/// means that memory was refused.
-fn reply_queue(
-    alloc: Global,
-) -> Option<
-    (
-        ReplySender<JobReply>,
-        ReplyReceiver<JobReply>,
-        ReplyPass<JobReply>,
-    ),
->
-    ensures { IfSome result (λ q. (receives_on q.1 ≡ sends_on q.0) × IsSeatAt (sends_on q.0) q.2 × (view q.2 ≡ none_got 0)) }
-{
-    bounded_with::<Option<QueuedReply<JobReply>>, ReplyLane<JobReply>, InOrder, Global>(
-        alloc, REPLIES,
-    ).ok()
-}
-
-/// Both queues, empty. None means that memory was refused.
-pub fn queues(alloc: Global) -> Option<(Senders, Receivers)>
-    ensures work { IfSome result (λ q. receives_on q.1.work ≡ sends_on q.0.jobs) }
-    ensures read { IfSome result (λ q. IsSeatAt (sends_on q.0.jobs) q.1.read) }
-    ensures unread { IfSome result (λ q. view q.1.read ≡ hand 8 [] []) }
-    ensures writes { IfSome result (λ q. receives_on q.1.writes ≡ sends_on q.0.replies) }
-    ensures written { IfSome result (λ q. IsSeatAt (sends_on q.0.replies) q.1.written) }
-    ensures unwritten { IfSome result (λ q. view q.1.written ≡ none_got 0) }
-{
-    let (jobs, work, read) = job_queue(alloc)?;
-    let (replies, writes, written) = reply_queue(alloc)?;
-    let senders = Senders { jobs, replies };
-    let receivers = Receivers {
-        work,
-        read,
-        writes,
-        written,
-    };
-    Some((senders, receivers))
-}
-
-/// A reader with its own sender. None means that memory was refused.
-fn reader_of(alloc: Global, jobs: &JobSender<Job>, read: JobPass<Job>) -> Option<Reader>
-    requires seat { IsSeatAt (sends_on jobs.now) read }
-    requires parts { 0 < (view read).parts }
-    requires takes_none { length (view read).taken ≡ 0 }
-    requires puts_none { (view read).put ≡ [] }
-    ensures queue { IfSome result (λ r. sends_on r.to ≡ sends_on jobs.now) }
-    ensures pass { IfSome result (λ r. view r.pass ≡ view read) }
-    ensures unheard { IfSome result (λ r. (r.cutter.kept ≡ []) × (r.agreed ≡ false) × (r.last_job ≡ None)) }
-    ensures none_back { IfSome result (λ r. (r.unkept ≡ 0) × (r.handed_back ≡ None)) }
-{
-    let jobs = jobs.try_clone().ok()?;
-    Reader::new(alloc, jobs, read).ok()
-}
-
-/// What the coordinator needs to answer the last frame. None means that memory was refused.
-fn coordinator_of(
-    alloc: Global,
-    settings: Settings,
-    work: JobReceiver<Job>,
-    replies: &ReplySender<JobReply>,
-) -> Option<Coordinator>
-    ensures settings { IfSome result (λ s. s.settings ≡ settings) }
-    ensures work { IfSome result (λ s. receives_on s.work ≡ receives_on work) }
-    ensures queue { IfSome result (λ s. sends_on s.replies ≡ sends_on replies.now) }
-{
-    let replies = replies.try_clone().ok()?;
-    Some(Coordinator {
-        alloc,
-        settings,
-        work,
-        replies,
-    })
-}
-
-impl Receivers {
-    /// The receiving ends. None means that memory was refused or a share is missing.
-    pub fn into_ends<T: Ledgers>(
-        self,
-        alloc: Global,
-        settings: Settings,
-        senders: &Senders,
-        shares: &mut Shares<T>,
-    ) -> Option<Ends<T>>
-        requires seat { IsSeatAt (sends_on senders.now.jobs) self.read }
-        requires parts { 0 < (view self.read).parts }
-        requires takes_none { length (view self.read).taken ≡ 0 }
-        requires puts_none { (view self.read).put ≡ [] }
-        requires reply_seat { IsSeatAt (receives_on self.writes) self.written }
-        requires gets { ((view self.written).gets ≡ true) × (length (view self.written).known ≡ 0) }
-        ensures settings { IfSome result (λ e. e.coordinator.settings ≡ settings) }
-        ensures work { IfSome result (λ e. receives_on e.coordinator.work ≡ receives_on self.work) }
-        ensures queue { IfSome result (λ e. sends_on e.coordinator.replies ≡ sends_on senders.now.replies) }
-        ensures reads { IfSome result (λ e. (sends_on e.reader.to ≡ sends_on senders.now.jobs) × (view e.reader.pass ≡ view self.read)) }
-        ensures unheard { IfSome result (λ e. (e.reader.cutter.kept ≡ []) × (e.reader.agreed ≡ false) × (e.reader.last_job ≡ None)) }
-        ensures none_back { IfSome result (λ e. (e.reader.unkept ≡ 0) × (e.reader.handed_back ≡ None)) }
-        ensures writes { IfSome result (λ e. (receives_on e.writer.replies ≡ receives_on self.writes) × (view e.writer.pass ≡ view self.written) × (e.writer.is_broken ≡ false)) }
+impl JobEnds {
+    /// An empty queue. None means that memory was refused.
+    pub fn new(alloc: Global) -> Option<JobEnds>
+        ensures { IfSome result (λ q. q.made ≡ 0) }
     {
-        let kept = shares.take()?;
-        let Receivers {
+        let (jobs, work, read) = bounded_with::<Job, Hand<Job>, Fair, Global>(alloc, JOBS).ok()?;
+        Some(JobEnds {
+            jobs,
             work,
             read,
-            writes,
-            written,
-        } = self;
-        let coordinator = coordinator_of(alloc, settings, work, &senders.replies)?;
-        let writer = Writer::new(alloc, writes, written).ok()?;
-        let reader = reader_of(alloc, &senders.jobs, read)?;
-        Some(Ends {
-            coordinator,
-            reader,
-            writer,
-            kept,
+            made: 0,
         })
     }
+
+    /// The pass of the next worker.
+    fn next_pass(&mut self) -> JobPass<Job>
+        requires few { self.old.made < 4 }
+        ensures seat { IsSeatAt (sends_on self.new.jobs) result }
+        ensures unused { view result ≡ hand 1 [] [] }
+        ensures same { (sends_on self.new.jobs ≡ sends_on self.old.jobs) × (receives_on self.new.work ≡ receives_on self.old.work) }
+        ensures made { self.new.made ≡ self.old.made + 1 }
+    {
+        let pass = self.jobs.another::<Cut>(&mut self.read);
+        self.made += 1;
+        pass
+    }
+
+    /// The sender, and the reader with a sender of its own. None means that memory was refused.
+    pub fn into_reader(self, alloc: Global) -> Option<JobSide>
+        requires few { self.made ≤ 4 }
+        ensures queue { IfSome result (λ r. (sends_on r.jobs ≡ sends_on self.jobs) × (sends_on r.reader.to ≡ sends_on self.jobs)) }
+        ensures parts { IfSome result (λ r. (view r.reader.pass).parts + self.made ≡ 8) }
+        ensures unread { IfSome result (λ r. IsUnread r.reader) }
+    {
+        let JobEnds {
+            jobs,
+            work: _,
+            read,
+            made: _,
+        } = self;
+        let to = jobs.try_clone().ok()?;
+        let reader = Reader::new(alloc, to, read).ok()?;
+        Some(JobSide { jobs, reader })
+    }
+}
+
+impl ReplyEnds {
+    /// An empty queue. None means that memory was refused.
+    pub fn new(alloc: Global) -> Option<ReplyEnds>
+        ensures { IfSome result (λ q. q.made ≡ 0) }
+    {
+        let (replies, writes, written) = bounded_with::<
+            QueuedReply<JobReply>,
+            ReplyLane<JobReply>,
+            InOrder,
+            Global,
+        >(alloc, REPLIES).ok()?;
+        Some(ReplyEnds {
+            replies,
+            writes,
+            written,
+            made: 0,
+        })
+    }
+
+    /// The pass of the next worker.
+    fn next_pass(&mut self) -> ReplyPass<JobReply>
+        requires few { self.old.made < 4 }
+        ensures seat { IsSeatAt (sends_on self.new.replies) result }
+        ensures unused { view result ≡ sender self.old.made [] }
+        ensures same { sends_on self.new.replies ≡ sends_on self.old.replies }
+        ensures made { self.new.made ≡ self.old.made + 1 }
+    {
+        let pass = self.replies.another::<Roles>(&mut self.written);
+        self.made += 1;
+        pass
+    }
+
+    /// The sender, and the writer. None means that memory was refused.
+    pub fn into_writer(self, alloc: Global) -> Option<ReplySide>
+        ensures queue { IfSome result (λ w. (sends_on w.replies ≡ sends_on self.replies) × (receives_on w.writer.replies ≡ sends_on self.replies)) }
+        ensures unsent { IfSome result (λ w. (view w.writer.pass ≡ none_got self.made) × (w.writer.is_broken ≡ false)) }
+    {
+        let ReplyEnds {
+            replies,
+            writes,
+            written,
+            made: _,
+        } = self;
+        let writer = Writer::new(alloc, writes, written).ok()?;
+        Some(ReplySide { replies, writer })
+    }
+}
+
+/// The next worker, with its ends of both queues. None means that memory was refused.
+pub fn next_worker(
+    alloc: Global,
+    settings: Settings,
+    job_ends: &mut JobEnds,
+    reply_ends: &mut ReplyEnds,
+) -> Option<Worker>
+    requires few { job_ends.old.made < 4 }
+    requires same { reply_ends.old.made ≡ job_ends.old.made }
+    ensures queues { (sends_on job_ends.new.jobs ≡ sends_on job_ends.old.jobs) × (sends_on reply_ends.new.replies ≡ sends_on reply_ends.old.replies) }
+    ensures made { (job_ends.new.made ≡ job_ends.old.made + 1) × (reply_ends.new.made ≡ reply_ends.old.made + 1) }
+    ensures is_new { IfSome result (IsNewWorker (sends_on job_ends.old.jobs) (sends_on reply_ends.old.replies) settings job_ends.old.made) }
+{
+    let number = job_ends.made;
+    let passes = Passes {
+        number,
+        taken: 0,
+        put: 0,
+        job_pass: job_ends.next_pass(),
+        reply_pass: reply_ends.next_pass(),
+    };
+    let work = job_ends.work.try_clone().ok()?;
+    let replies = reply_ends.replies.try_clone().ok()?;
+    Some(Worker::new(alloc, settings, work, replies, passes))
 }

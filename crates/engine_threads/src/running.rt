@@ -1,251 +1,217 @@
-//! Running all threads of a session, from the first start to the last end.
+//! Running a session that was prepared, from the start of its threads to their end.
 
-ghost use Rattle.std.specs.Prelude.{◌≡◌, ◌<◌, ◌≤◌, ◌+◌, [], length, map, false, Some, IfSome, vec_len, vec_capacity};
+ghost use Rattle.std.specs.Prelude.{◌≡◌, ◌<◌, ◌≤◌, [], length, map, Some, IfSome, IfOk, IfErr, vec_len, vec_capacity};
 ghost use Rattle.std.specs.List.{All, range_with_len};
-ghost use Rattle.crossbeam_channel.specs.Claims.{view, IsSeatAt};
-ghost use Rattle.crossbeam_channel.specs.Ends.{sends_on, receives_on};
-ghost use Rattle.std.specs.Option.{option_map};
-ghost use Rattle.engine_queues.specs.Gathered.{numbers_of, takings_of};
-ghost use Rattle.engine_turns.specs.TableCalls.{idle, on_table_of};
-ghost use Rattle.engine_turns.specs.Shown.{queued_of, reading, shown};
-ghost use Rattle.engine_turns.specs.Reads.{beginning, HasReadAll};
-ghost use Rattle.engine_turns.specs.Writes.{none_got, HasWrittenAll};
-ghost use Rattle.engine_threads.specs.Ended.{IsShared};
-ghost use Rattle.engine_threads.specs.Worked.{did, does_shared, made_by, AreUnused, CoordinatorAnswers, IsReadyWorker, WorkedEach};
+ghost use Rattle.crossbeam_channel.specs.Ends.{sends_on};
+ghost use Rattle.engine_queues.specs.Gathered.{takings_of};
+ghost use Rattle.engine_turns.specs.TableCalls.{on_table_of};
+ghost use Rattle.engine_threads.specs.Beginning.{IsReadyHere};
+ghost use Rattle.engine_threads.specs.Served.{behaviours, served_with, HasRun};
+ghost use Rattle.engine_threads.specs.Worked.{did};
 
-use crate::ending::{Finisher, Over};
-use crate::session_state::{Common, SharedState, Signs};
-use crate::starting::{Working, join_all, start_all};
-use crate::working::{ReadyWorker, WorkerEnd};
+use crate::alone::Alone;
+use crate::finishing::{EndRoom, Over, check_off, end_all};
+use crate::given::Given;
+use crate::origins::Workers;
+use crate::preparing::{Prepared, ReadyWorker};
+use crate::session_state::{Common, Signs};
+use crate::threads::{Started, run_all};
+use crate::worker_role::WorkerRole;
 use backing::Calls;
-use engine::{LinkIn, LinkOut, Settings};
-use engine_queues::Job;
-use engine_queues::jobs::JobSender;
-use engine_queues::replies::ReplySender;
-use engine_turns::{
-    JobReply, Reader, ReaderRole, Sink, Sleepers, Source, ThreadShare, Writer, WriterRole,
-};
+use engine::{LinkIn, LinkOut};
+use engine_turns::{ReaderRole, Sink, Sleepers, Source, WriterRole};
 use handles::Dirs;
 use ledger::Ledgers;
-use shared_history::ThreadLog;
 use std::alloc::Global;
-use std::sync::{Arc, Mutex, Wait};
+use std::sync::{Mutex, Wait};
 use std::thread::Threads;
-use table_shared::{LogEntry, Opening, Runs, SharedTable};
+use table_shared::{Opening, SharedTable};
 
-/// What the threads of a session will share.
-pub struct SharedParts<H: Drop, T: Ledgers, N: Opening, I: LinkIn + Drop, O: LinkOut + Drop> {
-    pub rt: H,
-    pub shared_table: SharedTable<T, N>,
-    pub dirs: Dirs,
-    pub reader: Reader,
-    pub link_in: I,
-    pub writer: Writer,
-    pub link_out: O,
-    pub kept: ThreadShare<T>,
-    /// The writer's log.
-    pub thread_log: ThreadLog<LogEntry<T>, Runs<N>>,
+/// Room for the workers, which is made before the session begins.
+#[derive(Drop)]
+pub struct Room<T: Ledgers, N: Opening, C: Calls + Drop, S: Workers<C>> {
+    pub roles: Vec<WorkerRole<T, N, C, S>>,
+    pub started: Vec<Started<T, N, C, S>>,
+    pub ended: Vec<WorkerRole<T, N, C, S>>,
+    pub at_end: EndRoom<T, N, C, S>,
+    ghost roles_room: { (4 ≤ vec_capacity roles) × (roles.items ≡ []) },
+    ghost started_room: { (4 ≤ vec_capacity started) × (started.items ≡ []) },
+    ghost ended_room: { (4 ≤ vec_capacity ended) × (ended.items ≡ []) },
 }
 
-impl<H: Drop, T: Ledgers, N: Opening, I: LinkIn + Drop, O: LinkOut + Drop> Drop
-    for SharedParts<H, T, N, I, O> {
-    // This is a call so that code that drops the value is not checked for each of its parts.
-    fn drop(self) {
-        let SharedParts {
-            rt: _,
-            shared_table: _,
-            dirs: _,
-            reader: _,
-            link_in: _,
-            writer: _,
-            link_out: _,
-            kept: _,
-            thread_log: _,
-        } = self;
+/// An empty vector with room for four items. None means that memory was refused.
+fn room_for_four<X: Drop>(alloc: Global) -> Option<Vec<X>>
+    ensures { IfSome result (λ v. (4 ≤ vec_capacity v) × (v.items ≡ [])) }
+{
+    Vec::with_capacity(alloc, 4).ok()
+}
+
+impl<T: Ledgers, N: Opening, C: Calls + Drop, S: Workers<C>> Room<T, N, C, S> {
+    /// Room for four workers. None means that memory was refused.
+    fn new(alloc: Global) -> Option<Room<T, N, C, S>> {
+        let at_end = EndRoom::new(alloc)?;
+        let roles = room_for_four(alloc)?;
+        let started = room_for_four(alloc)?;
+        let ended = room_for_four(alloc)?;
+        Some(Room {
+            roles,
+            started,
+            ended,
+            at_end,
+        })
     }
 }
 
-/// The workers, and buffers for what is left of all threads.
-pub struct WorkerThreads<T: Ledgers, N: Opening, C: Calls + Drop> {
-    pub ready_workers: Vec<ReadyWorker<T, N, C>>,
-    pub handles: Vec<Working<T, N, C>>,
-    pub ended: Vec<WorkerEnd<T, N, C>>,
-    pub finisher: Finisher<T, N>,
-}
-
-impl<T: Ledgers, N: Opening, C: Calls + Drop> Drop for WorkerThreads<T, N, C> {
-    // This is a call so that code that drops the value is not checked for each of its parts.
-    fn drop(self) {
-        let WorkerThreads {
-            ready_workers: _,
-            handles: _,
-            ended: _,
-            finisher: _,
-        } = self;
-    }
-}
-
-impl<H: Drop, T: Ledgers, N: Opening, I: LinkIn + Drop, O: LinkOut + Drop> SharedParts<
-    H,
-    T,
-    N,
-    I,
-    O,
-> {
-    /// Both roles at their beginning. None means that memory was refused.
-    fn share<S: Source<I> + Sink<O>>(self, alloc: Global) -> Option<SharedState<H, T, N, I, O, S>>
-        requires jobs { S.jobs ≡ Some (sends_on self.reader.to) }
-        requires parts { (view self.reader.pass).parts + S.parted ≡ 8 }
-        requires from { S.heard_from ≡ Some self.link_in }
-        requires unheard { reading self.link_in self.reader ≡ beginning self.link_in }
-        requires replies { S.replies ≡ Some (receives_on self.writer.replies) }
-        requires to { S.sent_to ≡ Some self.link_out }
-        requires unsent { view self.writer.pass ≡ none_got S.senders }
-        requires whole { self.writer.is_broken ≡ false }
-        requires thread_log { on_table_of self.thread_log ≡ idle S.senders }
-    {
-        let SharedParts {
-            rt,
-            shared_table,
-            dirs,
-            reader,
-            link_in,
-            writer,
-            link_out,
+/// Gives each worker its directory.
+fn with_directories<T: Ledgers, N: Opening, C: Calls + Drop, S: Workers<C>>(
+    workers: Vec<ReadyWorker<T, N>>,
+    calls: Vec<C>,
+    roles: Vec<WorkerRole<T, N, C, S>>,
+) -> Vec<WorkerRole<T, N, C, S>>
+    requires each { vec_len workers ≡ vec_len calls }
+    requires room { vec_len workers ≤ vec_capacity roles }
+    requires empty { roles.items ≡ [] }
+    requires ready { All (λ w. IsReadyHere S.work S.answers S.settings w.worker w.kept.share (on_table_of w.thread_log)) workers.items }
+    requires numbers { map (λ w. w.worker.number) workers.items ≡ range_with_len 0 (vec_len workers) }
+    requires given { S.given ≡ calls.items }
+    ensures { vec_len result ≡ vec_len workers }
+{
+    let mut roles = roles;
+    let mut left = calls.into_iter();
+    for one in workers {
+        let ReadyWorker {
+            worker,
             kept,
             thread_log,
-        } = self;
-        let common = Common {
-            rt,
-            shared_table,
-            dirs,
-            reader: Mutex::new(ReaderRole::new(reader, link_in)),
-            writer: Mutex::new(WriterRole::new(writer, link_out, kept, thread_log)),
-            sleepers: Sleepers::new(),
-            signs: Signs::new(),
+        } = one;
+        let Some(calls) = left.next() else {
+            unreachable!()
         };
-        Arc::new(alloc, common).ok()
+        roles.push_reserved(WorkerRole::new(worker, kept, thread_log, calls));
+    }
+    roles
+}
+
+/// What the threads of a session share, with both roles at their beginning.
+fn common_of<
+    H: Drop,
+    T: Ledgers,
+    N: Opening,
+    I: LinkIn + Drop,
+    O: LinkOut + Drop,
+    S: Source<I> + Sink<O>,
+>(
+    rt: H,
+    shared_table: SharedTable<T, N>,
+    dirs: Dirs,
+    reader: ReaderRole<I, S>,
+    writer: WriterRole<T, N, O, S>,
+) -> Common<H, T, N, I, O, S> {
+    Common {
+        rt,
+        shared_table,
+        dirs,
+        reader: Mutex::new(reader),
+        writer: Mutex::new(writer),
+        sleepers: Sleepers::new(),
+        signs: Signs::new(),
     }
 }
 
-/// Starts a thread for each of the workers. If one cannot be started, those that were end at once. Nothing is read
-/// before all are started.
-fn start_workers<
-    H: Threads + Wait + Send + Sync + Drop + 'static,
+/// Serves a session that was prepared, with links and directories.
+fn serve_in<
+    H: Threads + Wait + Sync + Drop + 'static,
     T: Ledgers + Send + Sync + 'static,
     N: Opening + Send + Sync + 'static,
     I: LinkIn + Send + Drop + 'static,
     O: LinkOut + Send + Drop + 'static,
     C: Calls + Send + Drop + 'static,
-    S: Source<I> + Sink<O> + Send + Sync + 'static,
+    S: Source<I> + Sink<O> + Workers<C> + Send + Sync + 'static,
 >(
     rt: &H,
-    common: &SharedState<H, T, N, I, O, S>,
-    jobs: &JobSender<Job>,
-    replies: &ReplySender<JobReply>,
-    settings: Settings,
-    ready_workers: Vec<ReadyWorker<T, N, C>>,
-    handles: Vec<Working<T, N, C>>,
-) -> Vec<Working<T, N, C>>
-    requires ready { All (λ s. IsReadyWorker (sends_on jobs.now) (sends_on replies.now) settings s.worker s.kept.share (on_table_of s.thread_log)) ready_workers.items }
-    requires room { vec_len ready_workers ≤ vec_capacity handles }
-    requires empty { handles.items ≡ [] }
-    ensures queues { All (λ h. (sends_on h.promise.jobs.value ≡ sends_on jobs.now) × (sends_on h.promise.replies.value ≡ sends_on replies.now) × (h.promise.settings ≡ settings)) result.items }
-    ensures numbers { vec_len result ≡ vec_len ready_workers → map (λ h. h.promise.number) result.items ≡ map (λ s. s.worker.number) ready_workers.items }
-    ensures given { vec_len result ≡ vec_len ready_workers → map (λ h. h.promise.calls.value) result.items ≡ map (λ s. s.calls) ready_workers.items }
-    ensures len { vec_len result ≤ vec_len ready_workers }
+    own_rt: H,
+    prepared: Prepared<T, N>,
+    given: Given<I, O, C>,
+    room: Room<T, N, C, S>,
+) -> Over<T, N, I, O, C>
+    requires each { vec_len prepared.workers ≡ vec_len given.calls }
+    requires some { 0 < vec_len given.calls }
+    requires few { vec_len given.calls ≤ 4 }
+    requires jobs { (S.jobs ≡ Some (sends_on prepared.senders.jobs)) × (S.work ≡ Some (sends_on prepared.senders.jobs)) }
+    requires replies { (S.replies ≡ Some (sends_on prepared.senders.replies)) × (S.answers ≡ Some (sends_on prepared.senders.replies)) }
+    requires counts { (S.parted ≡ vec_len given.calls) × (S.senders ≡ vec_len given.calls) }
+    requires links { (S.heard_from ≡ Some given.link_in) × (S.sent_to ≡ Some given.link_out) }
+    requires workers { (S.settings ≡ Some prepared.settings) × (S.given ≡ given.calls.items) }
+    ensures taken { result.taken.items ≡ map (λ js. length js) (takings_of result.passed.passes.value.items) }
+    ensures ran { HasRun (behaviours C.gives I.receives O.sends) prepared.settings (did result.closed.table.log) result.passed (served_with given.link_in given.link_out given.calls.items) (served_with result.link_in result.link_out result.calls.items) }
 {
-    let count = ready_workers.len();
-    // The reader's lock is held until all threads are started, so that no thread reads before that.
-    let unread = common.reader.try_lock();
-    let handles = start_all(rt, common, jobs, replies, settings, ready_workers, handles);
-    if handles.len() != count {
-        common.signs.tell_over();
-    }
-    drop(unread);
-    common.sleepers.wake(u64::MAX);
-    handles
+    let Prepared {
+        settings: _,
+        shared_table,
+        dirs,
+        senders,
+        reader,
+        writer,
+        kept,
+        thread_log,
+        workers,
+        shares,
+    } = prepared;
+    let Given {
+        link_in,
+        link_out,
+        calls,
+    } = given;
+    let Room {
+        roles,
+        started,
+        ended,
+        at_end,
+    } = room;
+    let EndRoom {
+        ends,
+        parted,
+        taken,
+    } = at_end;
+    let roles = with_directories(workers, calls, roles);
+    let reader = ReaderRole::new(reader, link_in);
+    let writer = WriterRole::new(writer, link_out, kept, thread_log);
+    let common = common_of(own_rt, shared_table, dirs, reader, writer);
+    let roles = run_all(rt, &common, roles, started, ended);
+    let ends = end_all(rt, Alone::new(common), roles, ends);
+    check_off(rt, &senders, ends, shares, parted, taken)
 }
 
-impl<
+/// Serves a session that was prepared. If memory is refused, nothing was received, and all comes back.
+pub fn serve_prepared<
+    H: Threads + Wait + Sync + Drop + 'static,
     T: Ledgers + Send + Sync + 'static,
     N: Opening + Send + Sync + 'static,
+    I: LinkIn + Send + Drop + 'static,
+    O: LinkOut + Send + Drop + 'static,
     C: Calls + Send + Drop + 'static,
-> WorkerThreads<T, N, C> {
-    /// Runs a session: starts its threads, waits for their end, and does what is left to do. None means that memory or
-    /// a thread was refused.
-    pub fn run<
-        H: Threads + Wait + Send + Sync + Drop + 'static,
-        I: LinkIn + Send + Drop + 'static,
-        O: LinkOut + Send + Drop + 'static,
-        S: Source<I> + Sink<O> + Send + Sync + 'static,
-    >(
-        self,
-        rt: &H,
-        alloc: Global,
-        jobs: &JobSender<Job>,
-        replies: &ReplySender<JobReply>,
-        parts: SharedParts<H, T, N, I, O>,
-    ) -> Option<Over<T, N, C>>
-        requires some { 0 < vec_len self.ready_workers }
-        requires few { vec_len self.ready_workers ≤ 4 }
-        requires jobs { S.jobs ≡ Some (sends_on jobs.now) }
-        requires replies { S.replies ≡ Some (sends_on replies.now) }
-        requires parted { S.parted ≡ vec_len self.ready_workers + 1 }
-        requires senders { S.senders ≡ vec_len self.ready_workers + 1 }
-        requires from { S.heard_from ≡ Some parts.link_in }
-        requires to { S.sent_to ≡ Some parts.link_out }
-        requires reads { sends_on parts.reader.to ≡ sends_on jobs.now }
-        requires parts { (view parts.reader.pass).parts + (vec_len self.ready_workers + 1) ≡ 8 }
-        requires unheard { reading parts.link_in parts.reader ≡ beginning parts.link_in }
-        requires writes { receives_on parts.writer.replies ≡ sends_on replies.now }
-        requires unsent { view parts.writer.pass ≡ none_got (vec_len self.ready_workers + 1) }
-        requires whole { parts.writer.is_broken ≡ false }
-        requires thread_log { on_table_of parts.thread_log ≡ idle (vec_len self.ready_workers + 1) }
-        requires ready_workers { All (λ s. IsReadyWorker (sends_on jobs.now) (sends_on replies.now) self.finisher.coordinator.settings s.worker s.kept.share (on_table_of s.thread_log)) self.ready_workers.items }
-        requires numbers { map (λ s. s.worker.number) self.ready_workers.items ≡ range_with_len 0 (vec_len self.ready_workers) }
-        requires handles { 4 ≤ vec_capacity self.handles }
-        requires none_started { self.handles.items ≡ [] }
-        requires ended { 4 ≤ vec_capacity self.ended }
-        requires none_ended { self.ended.items ≡ [] }
-        requires job_seat { IsSeatAt (sends_on jobs.now) self.finisher.own.passes.job_pass }
-        requires reply_seat { IsSeatAt (sends_on replies.now) self.finisher.own.passes.reply_pass }
-        requires unused { AreUnused self.finisher.own.passes }
-        requires number { self.finisher.own.passes.number ≡ vec_len self.ready_workers }
-        requires own_log { on_table_of self.finisher.own.thread_log ≡ idle self.finisher.own.passes.number }
-        requires work { receives_on self.finisher.coordinator.work ≡ sends_on jobs.now }
-        requires queue { sends_on self.finisher.coordinator.replies ≡ sends_on replies.now }
-        requires passes { 5 ≤ vec_capacity self.finisher.passes }
-        requires no_passes { self.finisher.passes.items ≡ [] }
-        requires handed_back { (5 ≤ vec_capacity self.finisher.handed_back) × (self.finisher.handed_back.items ≡ []) }
-        requires taken { 5 ≤ vec_capacity self.finisher.taken }
-        requires none_taken { self.finisher.taken.items ≡ [] }
-        ensures taken { IfSome result (λ o. vec_len o.taken ≡ vec_len self.ready_workers + 1) }
-        ensures counted { IfSome result (λ o. o.taken.items ≡ map (λ js. length js) (takings_of o.passed.passes.value.items)) }
-        ensures numbers { IfSome result (λ o. numbers_of o.passed.passes.value.items ≡ range_with_len 0 (vec_len self.ready_workers + 1)) }
-        ensures reads { IfSome result (λ o. ∥ HasReadAll I.receives (Some parts.link_in) o.passed.input (queued_of (view o.passed.read.value).put) (option_map shown o.passed.last_job.value) o.passed.is_job_handed_back ∥₁) }
-        ensures writes { IfSome result (λ o. ∥ HasWrittenAll O.sends (Some parts.link_out) (vec_len self.ready_workers + 1) (made_by (did o.closed.table.log) (vec_len self.ready_workers + 1)) (view o.passed.written.value) o.passed.is_broken ∥₁) }
-        ensures shared { IfSome result (λ o. IsShared (view o.passed.read.value) o.passed.passes.value.items (view o.passed.written.value)) }
-        ensures worked { IfSome result (λ o. WorkedEach (does_shared C.gives) self.finisher.coordinator.settings (did o.closed.table.log) (map (λ s. s.calls) self.ready_workers.items) o.passed.passes.value.items o.passed.handed_back.items) }
-        ensures last_job { IfSome result (λ o. CoordinatorAnswers (does_shared C.gives) self.finisher.coordinator.settings (did o.closed.table.log) (map (λ s. s.calls) self.ready_workers.items) o.passed.last_job.value o.passed.passes.value.items o.passed.handed_back.items) }
-    {
-        let common: SharedState<H, T, N, I, O, S> = parts.share(alloc)?;
-        let WorkerThreads {
-            ready_workers,
-            handles,
-            ended,
-            finisher,
-        } = self;
-        let count = ready_workers.len();
-        let settings = finisher.coordinator.settings;
-        let handles = start_workers(rt, &common, jobs, replies, settings, ready_workers, handles);
-        let are_all = handles.len() == count;
-        let ended = join_all(rt, jobs, replies, settings, handles, ended);
-        if !are_all {
-            return None;
-        }
-        // All threads have ended, so this is the last reference.
-        let common = Arc::into_inner(common)?;
-        Some(finisher.end_all(rt, common, jobs, replies, ended))
+    S: Source<I> + Sink<O> + Workers<C> + Send + Sync + 'static,
+>(
+    rt: &H,
+    alloc: Global,
+    own_rt: H,
+    prepared: Prepared<T, N>,
+    given: Given<I, O, C>,
+) -> Result<Over<T, N, I, O, C>, Given<I, O, C>>
+    requires each { vec_len prepared.workers ≡ vec_len given.calls }
+    requires some { 0 < vec_len given.calls }
+    requires few { vec_len given.calls ≤ 4 }
+    requires jobs { (S.jobs ≡ Some (sends_on prepared.senders.jobs)) × (S.work ≡ Some (sends_on prepared.senders.jobs)) }
+    requires replies { (S.replies ≡ Some (sends_on prepared.senders.replies)) × (S.answers ≡ Some (sends_on prepared.senders.replies)) }
+    requires counts { (S.parted ≡ vec_len given.calls) × (S.senders ≡ vec_len given.calls) }
+    requires links { (S.heard_from ≡ Some given.link_in) × (S.sent_to ≡ Some given.link_out) }
+    requires workers { (S.settings ≡ Some prepared.settings) × (S.given ≡ given.calls.items) }
+    ensures unserved { IfErr result (λ back. back ≡ given) }
+    ensures taken { IfOk result (λ o. o.taken.items ≡ map (λ js. length js) (takings_of o.passed.passes.value.items)) }
+    ensures ran { IfOk result (λ o. HasRun (behaviours C.gives I.receives O.sends) prepared.settings (did o.closed.table.log) o.passed (served_with given.link_in given.link_out given.calls.items) (served_with o.link_in o.link_out o.calls.items)) }
+{
+    match Room::<T, N, C, S>::new(alloc) {
+        Some(room) => Ok(serve_in(rt, own_rt, prepared, given, room)),
+        None => Err(given),
     }
 }

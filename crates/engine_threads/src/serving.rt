@@ -1,29 +1,26 @@
 //! A whole session on threads.
 
 ghost use Rattle.std.specs.Prelude.{◌≡◌, ◌<◌, ◌≤◌, ◌+◌, ◌⊎◌, List, length, map, None, Some, IfNone, IfSome, vec_len};
-ghost use Rattle.crossbeam_channel.specs.Claims.{view};
+ghost use Rattle.std.specs.List.{All};
 ghost use Rattle.engine.specs.declared.ends.SessionEnd.TheVariants as end;
-ghost use Rattle.std.specs.List.{All, range_with_len};
-ghost use Rattle.std.specs.Option.{option_map};
-ghost use Rattle.engine_queues.specs.Gathered.{numbers_of, takings_of};
-ghost use Rattle.engine_turns.specs.Shown.{queued_of, shown};
-ghost use Rattle.engine_turns.specs.Reads.{HasReadAll};
+ghost use Rattle.engine_queues.specs.Gathered.{takings_of};
 ghost use Rattle.ledger.specs.Shares.{nothing};
-ghost use Rattle.ledger.specs.Sums.{totals_over};
-ghost use Rattle.table_shared.specs.Histories.{Made, history_of, last_world};
+ghost use Rattle.table_shared.specs.Histories.{Made};
 ghost use Rattle.table_steps.specs.Kept.{world_of};
 ghost use Rattle.table_steps.specs.World.{opened_world};
-ghost use Rattle.engine_threads.specs.Ended.{EndsAs, IsShared};
-ghost use Rattle.engine_threads.specs.Served.{HasServed};
+ghost use Rattle.terms.specs.declared.settings.Settings.{Settings as TheSettings};
+ghost use Rattle.engine_threads.specs.Ended.{EndsAs};
+ghost use Rattle.engine_threads.specs.Served.{behaviours, served_with, HasRun, HasServed};
+ghost use Rattle.engine_threads.specs.Worked.{did};
 
 use crate::ended::{Account, Ended, Sums};
-use crate::ending::Over;
-use crate::queued::{SessionParts, serve_queued};
-use crate::thread_logs::{ThreadLogs, shared_table_of};
+use crate::finishing::Over;
+use crate::given::Given;
+use crate::preparing::prepare;
+use crate::running::serve_prepared;
 use backing::Calls;
 use engine::{LinkIn, LinkOut, SessionEnd, Settings, remove_leftovers};
 use engine_turns::Shares;
-use handles::Dirs;
 use ledger::{Blanks, Ledgers};
 use shared_history::Opened;
 use std::alloc::Global;
@@ -33,170 +30,121 @@ use std::thread::Threads;
 use table::{Counts, Limits, Seeds, Table};
 use table_shared::{LogEntry, Opening};
 
-/// Both directions of the connection to a client.
+/// A table that was just opened, the name of its history, and its shares.
 #[derive(Drop)]
-struct Links<I: LinkIn + Drop, O: LinkOut + Drop> {
-    link_in: I,
-    link_out: O,
+struct FreshTable<T: Ledgers> {
+    opened: Opened<LogEntry<T>>,
+    table: Table<T>,
+    shares: Shares<T>,
 }
 
-/// Both directions, and what the threads share that does not depend on the table.
-struct SessionBase<H: Drop, I: LinkIn + Drop, O: LinkOut + Drop> {
-    rt: H,
-    dirs: Dirs,
-    link_in: I,
-    link_out: O,
-}
-
-impl<H: Drop, I: LinkIn + Drop, O: LinkOut + Drop> Drop for SessionBase<H, I, O> {
-    // This is a call so that code that drops the value is not checked for each of its parts.
-    fn drop(self) {
-        let SessionBase {
-            rt: _,
-            dirs: _,
-            link_in: _,
-            link_out: _,
-        } = self;
+impl<I: LinkIn + Drop, O: LinkOut + Drop, C: Calls + Drop> Ended<I, O, C> {
+    /// Nothing was served, since memory was refused.
+    fn unserved(given: Given<I, O, C>) -> Ended<I, O, C>
+        ensures { (result.end ≡ end.Memory) × (result.back ≡ given) × (result.account ≡ None) }
+    {
+        Ended {
+            end: SessionEnd::Memory,
+            back: given,
+            account: None,
+        }
     }
 }
 
-/// None means that memory was refused.
-fn session_base_of<H: Clone + Drop, I: LinkIn + Drop, O: LinkOut + Drop>(
+/// Removes the files that are still hidden, through the last directory, and adds up the shares.
+fn conclude<H: Wait, T: Ledgers, N: Opening, I: LinkIn + Drop, O: LinkOut + Drop, C: Calls + Drop>(
     rt: &H,
-    alloc: Global,
-    links: Links<I, O>,
-) -> Option<SessionBase<H, I, O>>
-    ensures { IfSome result (λ h. (h.link_in ≡ links.link_in) × (h.link_out ≡ links.link_out)) }
+    over: Over<T, N, I, O, C>,
+) -> Ended<I, O, C>
+    requires some { 0 < vec_len over.calls }
+    requires taken { over.taken.items ≡ map (λ js. length js) (takings_of over.passed.passes.value.items) }
+    ensures end { IfSome result.account (λ a. EndsAs a.passed.input a.passed.is_broken result.end) }
+    ensures account { IfNone result.account ⊥ }
+    ensures served { (settings : TheSettings) (link_in : I) (link_out : O) (calls : List C) → N.threads ≡ length calls + 1 → HasRun (behaviours C.gives I.receives O.sends) settings (did over.closed.table.log) over.passed (served_with link_in link_out calls) (served_with over.link_in over.link_out over.calls.items)
+        → IfSome result.account (λ a. ∥ ((history : List Made) × HasServed (behaviours C.gives I.receives O.sends) N.limits settings a.passed a.sums.totals (served_with link_in link_out calls) (served_with result.back.link_in result.back.link_out result.back.calls.items) history) ∥₁) }
 {
-    let Links { link_in, link_out } = links;
-    let rt = rt.clone().ok()?;
-    let dirs = Dirs::new(alloc).ok()?;
-    Some(SessionBase {
-        rt,
-        dirs,
-        link_in,
-        link_out,
-    })
-}
-
-/// Removes the files that are still hidden, through the directory that is left, and adds up the shares.
-fn conclude<T: Ledgers, N: Opening, C: Calls + Drop>(over: Over<T, N, C>) -> Option<Account>
-    requires taken { 0 < vec_len over.taken }
-    requires counted { over.taken.items ≡ map (λ js. length js) (takings_of over.passed.passes.value.items) }
-    ensures taken { IfSome result (λ a. vec_len a.taken + 1 ≡ vec_len over.taken) }
-    ensures passed { IfSome result (λ a. a.passed ≡ over.passed) }
-    ensures totals { IfSome result (λ a. a.sums.totals ≡ totals_over (last_world (opened_world N.limits) (history_of over.closed.table.log)).postings) }
-{
+    over.closed.attest(); // proof: its law
     let Over {
         passed,
         taken,
         closed,
         shares,
         mut calls,
+        link_in,
+        link_out,
     } = over;
     let table = closed.into_table();
-    remove_leftovers(&mut calls, &table);
-    let sums = Sums::gather(table, shares.into_all())?;
-    Some(Account::new(sums, taken, passed))
-}
-
-/// How a session ended: if the link broke, that is the end, whatever else happened. None means that nothing ended it.
-fn end_of(input: Option<SessionEnd>, is_broken: bool) -> Option<SessionEnd>
-    ensures { IfSome result (EndsAs input is_broken) }
-{
-    if is_broken {
-        Some(SessionEnd::LinkBroken)
-    } else {
-        input
-    }
-}
-
-/// What was served, with how the session ended. If nothing ended it, it counts as not served.
-fn ended_by(account: Account) -> Ended
-    ensures end { IfSome result.account (λ a. (a ≡ account) × EndsAs a.passed.input a.passed.is_broken result.end) }
-    ensures lost { IfNone result.account (result.end ≡ end.Memory) }
-    ensures only { result.end ≡ end.NoWorkers → account.passed.input ≡ Some end.NoWorkers }
-{
-    match end_of(account.passed.input, account.passed.is_broken) {
-        Some(end) => Ended {
-            end,
-            account: Some(account),
+    let Some(mut last) = calls.pop() else {
+        unreachable!()
+    };
+    remove_leftovers(&mut last, &table);
+    calls.push_reserved(last);
+    let sums = Sums::gather(rt, table, shares.into_all());
+    let end = passed.end(rt);
+    let account = Account {
+        sums,
+        taken,
+        passed,
+    };
+    Ended {
+        end,
+        back: Given {
+            link_in,
+            link_out,
+            calls,
         },
-        None => Ended::unserved(SessionEnd::Memory),
+        account: Some(account),
     }
 }
 
-impl<
-    H: Threads + Wait + Send + Sync + Drop + 'static,
+/// Serves with a table that was just opened.
+fn serve_opened<
+    H: Threads + Wait + Clone + Sync + Drop + 'static,
+    T: Ledgers + Send + Sync + 'static,
+    N: Opening + Send + Sync + 'static,
     I: LinkIn + Send + Drop + 'static,
     O: LinkOut + Send + Drop + 'static,
-> SessionBase<H, I, O> {
-    /// Serves with a table that was just opened, and the name of its history. None means that memory or a thread was
-    /// refused.
-    fn serve_opened<
-        T: Ledgers + Send + Sync + 'static,
-        N: Opening + Send + Sync + 'static,
-        C: Calls + Send + Drop + 'static,
-    >(
-        self,
-        rt: &H,
-        alloc: Global,
-        opened: Opened<LogEntry<T>>,
-        table: Table<T>,
-        shares: Shares<T>,
-        trees: Vec<C>,
-        limits: Limits,
-        settings: Settings,
-    ) -> Option<Account>
-        requires history { opened.table.shared.table_id ≡ N.history }
-        requires limits { limits ≡ N.limits }
-        requires threads { N.threads ≡ vec_len trees + 2 }
-        requires table { world_of table ≡ opened_world limits }
-        requires shares { All (λ p. p.totals ≡ nothing) shares.shares.items }
-        requires some { 0 < vec_len trees }
-        requires few { vec_len trees ≤ 4 }
-        ensures taken { IfSome result (λ a. vec_len a.taken ≡ vec_len trees) }
-        ensures numbers { IfSome result (λ a. numbers_of a.passed.passes.value.items ≡ range_with_len 0 (vec_len trees + 1)) }
-        ensures reads { IfSome result (λ a. ∥ HasReadAll I.receives (Some self.link_in) a.passed.input (queued_of (view a.passed.read.value).put) (option_map shown a.passed.last_job.value) a.passed.is_job_handed_back ∥₁) }
-        ensures shared { IfSome result (λ a. IsShared (view a.passed.read.value) a.passed.passes.value.items (view a.passed.written.value)) }
-        ensures served { IfSome result (λ a. ∥ ((history : List Made) × HasServed C.gives O.sends limits settings trees.items self.link_out a.passed a.sums.totals history) ∥₁) }
-    {
-        let (shared_table, thread_logs) = shared_table_of::<T, N>(
-            alloc,
-            opened,
-            table,
-            trees.len(),
-        )?;
-        let ThreadLogs {
-            workers,
-            coordinator,
-            writer,
-        } = thread_logs;
-        let SessionBase {
-            rt: own_rt,
-            dirs,
-            link_in,
-            link_out,
-        } = self;
-        let session_parts = SessionParts {
-            rt: own_rt,
-            shared_table,
-            dirs,
-            link_in,
-            link_out,
-            writes: writer,
-            starts: coordinator,
-            shares,
-        };
-        let over = serve_queued(rt, alloc, settings, session_parts, workers, trees)?;
-        over.closed.attest(); // proof: its law
-        conclude(over)
+    C: Calls + Send + Drop + 'static,
+>(
+    rt: &H,
+    alloc: Global,
+    fresh: FreshTable<T>,
+    given: Given<I, O, C>,
+    opening: (Limits, Settings),
+) -> Ended<I, O, C>
+    requires limits { opening.0 ≡ N.limits }
+    requires history { fresh.opened.table.shared.table_id ≡ N.history }
+    requires threads { N.threads ≡ vec_len given.calls + 1 }
+    requires table { world_of fresh.table ≡ opened_world N.limits }
+    requires shares { All (λ p. p.totals ≡ nothing) fresh.shares.shares.items }
+    requires some { 0 < vec_len given.calls }
+    requires few { vec_len given.calls ≤ 4 }
+    ensures unserved { IfNone result.account ((result.end ≡ end.Memory) × (result.back ≡ given)) }
+    ensures end { IfSome result.account (λ a. EndsAs a.passed.input a.passed.is_broken result.end) }
+    ensures served { IfSome result.account (λ a. ∥ ((history : List Made) × HasServed (behaviours C.gives I.receives O.sends) N.limits opening.1 a.passed a.sums.totals (served_with given.link_in given.link_out given.calls.items) (served_with result.back.link_in result.back.link_out result.back.calls.items) history) ∥₁) }
+{
+    let FreshTable {
+        opened,
+        table,
+        shares,
+    } = fresh;
+    let Ok(own_rt) = rt.clone() else {
+        return Ended::unserved(given);
+    };
+    let count = given.calls.len();
+    let settings = opening.1;
+    let Some(prepared) = prepare::<T, N>(alloc, opened, table, shares, count, settings) else {
+        return Ended::unserved(given);
+    };
+    match serve_prepared::<H, T, N, I, O, C, Brand>(rt, alloc, own_rt, prepared, given) {
+        Ok(over) => conclude(rt, over),
+        Err(given) => Ended::unserved(given),
     }
 }
 
-/// Serves with a table and the name of its ledgers. None means that memory or a thread was refused.
+/// Serves with a table whose ledgers have these names.
 fn serve_table<
-    H: Threads + Wait + Clone + Send + Sync + Drop + 'static,
+    H: Threads + Wait + Clone + Sync + Drop + 'static,
     T: Ledgers + Send + Sync + 'static,
     I: LinkIn + Send + Drop + 'static,
     O: LinkOut + Send + Drop + 'static,
@@ -205,74 +153,69 @@ fn serve_table<
     rt: &H,
     alloc: Global,
     blanks: Blanks,
-    links: Links<I, O>,
-    trees: Vec<C>,
-    limits: Limits,
-    seeds: Seeds,
+    given: Given<I, O, C>,
+    opening: (Limits, Seeds),
     settings: Settings,
-) -> Option<Account>
+) -> Ended<I, O, C>
     requires names { blanks ≡ T.names }
-    requires shares { T.names.parts ≡ vec_len trees + 1 }
-    requires root { 1 ≤ limits.nodes }
-    requires free { limits.counts ≡ Counts.Free → limits.nodes ≤ limits.postings }
-    requires some { 0 < vec_len trees }
-    requires few { vec_len trees ≤ 4 }
-    ensures taken { IfSome result (λ a. vec_len a.taken ≡ vec_len trees) }
-    ensures numbers { IfSome result (λ a. numbers_of a.passed.passes.value.items ≡ range_with_len 0 (vec_len trees + 1)) }
-    ensures reads { IfSome result (λ a. ∥ HasReadAll I.receives (Some links.link_in) a.passed.input (queued_of (view a.passed.read.value).put) (option_map shown a.passed.last_job.value) a.passed.is_job_handed_back ∥₁) }
-    ensures shared { IfSome result (λ a. IsShared (view a.passed.read.value) a.passed.passes.value.items (view a.passed.written.value)) }
-    ensures served { IfSome result (λ a. ∥ ((history : List Made) × HasServed C.gives O.sends limits settings trees.items links.link_out a.passed a.sums.totals history) ∥₁) }
+    requires parts { T.names.parts ≡ vec_len given.calls + 1 }
+    requires root { 1 ≤ opening.0.nodes }
+    requires free { opening.0.counts ≡ Counts.Free → opening.0.nodes ≤ opening.0.postings }
+    requires some { 0 < vec_len given.calls }
+    requires few { vec_len given.calls ≤ 4 }
+    ensures unserved { IfNone result.account ((result.end ≡ end.Memory) × (result.back ≡ given)) }
+    ensures end { IfSome result.account (λ a. EndsAs a.passed.input a.passed.is_broken result.end) }
+    ensures served { IfSome result.account (λ a. ∥ ((history : List Made) × HasServed (behaviours C.gives I.receives O.sends) opening.0 settings a.passed a.sums.totals (served_with given.link_in given.link_out given.calls.items) (served_with result.back.link_in result.back.link_out result.back.calls.items) history) ∥₁) }
 {
-    let session_base = session_base_of(rt, alloc, links)?;
-    let opened = Opened::new(alloc).ok()?;
-    let shares_wanted = trees.len() + 1;
-    let (table, shares) = Table::<T>::open(alloc, limits, seeds, blanks, shares_wanted).ok()?;
-    let shares = Shares::new(shares);
-    session_base.serve_opened::<T, Brand, C>(
-        rt, alloc, opened, table, shares, trees, limits, settings,
-    )
+    let (limits, seeds) = opening;
+    let Ok(opened) = Opened::new(alloc) else {
+        return Ended::unserved(given);
+    };
+    let parts = given.calls.len() + 1;
+    let Ok((table, shares)) = Table::<T>::open(alloc, limits, seeds, blanks, parts) else {
+        return Ended::unserved(given);
+    };
+    let fresh = FreshTable {
+        opened,
+        table,
+        shares: Shares::new(shares),
+    };
+    serve_opened::<H, T, Brand, I, O, C>(rt, alloc, fresh, given, (limits, settings))
 }
 
 /// Serves a client until its session ends, with one thread for each of 1 to 4 directories. Each thread takes whichever
-/// turn is due: it offers the replies that are ready, works on a job, or reads. With any other number of directories
-/// nothing is read. The directories should show one tree.
+/// turn is due: it offers the replies that are ready, works on a job, or reads. If the system refuses a thread, the caller's takes its
+/// place. With any other number of directories nothing is read. All that takes memory is made before anything is received; if it is
+/// refused, what was given comes back as it was.
 pub fn serve_threads<
-    H: Threads + Wait + Clone + Send + Sync + Drop + 'static,
+    H: Threads + Wait + Clone + Sync + Drop + 'static,
     I: LinkIn + Send + Drop + 'static,
     O: LinkOut + Send + Drop + 'static,
     C: Calls + Send + Drop + 'static,
 >(
     rt: &H,
     alloc: Global,
-    link_in: I,
-    link_out: O,
-    calls: Vec<C>,
+    given: Given<I, O, C>,
     limits: Limits,
     seeds: Seeds,
     settings: Settings,
-) -> Ended
+) -> Ended<I, O, C>
     requires root { 1 ≤ limits.nodes }
     requires free { limits.counts ≡ Counts.Free → limits.nodes ≤ limits.postings }
-    ensures nobody { ((vec_len calls ≡ 0) ⊎ (4 < vec_len calls)) → (result.end ≡ end.NoWorkers) × (result.account ≡ None) }
-    ensures only { result.end ≡ end.NoWorkers → (vec_len calls ≡ 0) ⊎ (4 < vec_len calls) }
-    ensures lost { IfNone result.account ((result.end ≡ end.Memory) ⊎ (result.end ≡ end.NoWorkers)) }
-    ensures taken { IfSome result.account (λ a. vec_len a.taken ≡ vec_len calls) }
+    ensures nobody { ((vec_len given.calls ≡ 0) ⊎ (4 < vec_len given.calls)) → (result.end ≡ end.NoWorkers) × (result.account ≡ None) }
+    ensures only { result.end ≡ end.NoWorkers → (vec_len given.calls ≡ 0) ⊎ (4 < vec_len given.calls) }
+    ensures unserved { IfNone result.account (((result.end ≡ end.Memory) ⊎ (result.end ≡ end.NoWorkers)) × (result.back ≡ given)) }
     ensures end { IfSome result.account (λ a. EndsAs a.passed.input a.passed.is_broken result.end) }
-    ensures numbers { IfSome result.account (λ a. numbers_of a.passed.passes.value.items ≡ range_with_len 0 (vec_len calls + 1)) }
-    ensures reads { IfSome result.account (λ a. ∥ HasReadAll I.receives (Some link_in) a.passed.input (queued_of (view a.passed.read.value).put) (option_map shown a.passed.last_job.value) a.passed.is_job_handed_back ∥₁) }
-    ensures shared { IfSome result.account (λ a. IsShared (view a.passed.read.value) a.passed.passes.value.items (view a.passed.written.value)) }
-    ensures served { IfSome result.account (λ a. ∥ ((history : List Made) × HasServed C.gives O.sends limits settings calls.items link_out a.passed a.sums.totals history) ∥₁) }
+    ensures served { IfSome result.account (λ a. ∥ ((history : List Made) × HasServed (behaviours C.gives I.receives O.sends) limits settings a.passed a.sums.totals (served_with given.link_in given.link_out given.calls.items) (served_with result.back.link_in result.back.link_out result.back.calls.items) history) ∥₁) }
 {
-    let count = calls.len();
+    let count = given.calls.len();
     if count == 0 || count > 4 {
-        return Ended::unserved(SessionEnd::NoWorkers);
+        return Ended {
+            end: SessionEnd::NoWorkers,
+            back: given,
+            account: None,
+        };
     }
     let blanks = Blanks::new(count as u64 + 1);
-    let links = Links { link_in, link_out };
-    match serve_table::<H, Brand, I, O, C>(
-        rt, alloc, blanks, links, calls, limits, seeds, settings,
-    ) {
-        Some(account) => ended_by(account),
-        None => Ended::unserved(SessionEnd::Memory),
-    }
+    serve_table::<H, Brand, I, O, C>(rt, alloc, blanks, given, (limits, seeds), settings)
 }

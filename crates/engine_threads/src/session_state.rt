@@ -4,8 +4,8 @@ use engine::{LinkIn, LinkOut};
 use engine_turns::{ReaderRole, Sink, Sleepers, Source, WriterRole};
 use handles::Dirs;
 use ledger::Ledgers;
+use std::sync::Mutex;
 use std::sync::atomic::{AtomicBool, AtomicU64, Ordering};
-use std::sync::{Arc, Mutex};
 use table_shared::{Opening, SharedTable};
 
 /// What threads tell one another without a lock.
@@ -135,5 +135,3 @@ pub struct Common<
     pub sleepers: Sleepers,
     pub signs: Signs,
 }
-
-pub type SharedState<H, T, N, I, O, S> = Arc<Common<H, T, N, I, O, S>>;

@@ -1,15 +1,12 @@
 //! The turns that a thread looks for: first replies that are ready, then jobs, and last a receive.
 
-ghost use Rattle.std.specs.Prelude.{◌≡◌, List, Option};
-ghost use Rattle.crossbeam_channel.specs.Claims.{view};
+ghost use Rattle.std.specs.Prelude.{◌≡◌};
 ghost use Rattle.crossbeam_channel.specs.Ends.{sends_on, receives_on};
-ghost use Rattle.table_steps.specs.Answers.{Settlement};
 ghost use Rattle.engine_turns.specs.TableCalls.{on_table_of};
-ghost use Rattle.engine_turns.specs.Turns.{means, outbox, standing};
-ghost use Rattle.engine_turns.specs.Works.{WorkedAll};
-ghost use Rattle.engine_threads.specs.Worked.{does_shared};
+ghost use Rattle.engine_threads.specs.Worked.{does_shared, stand_of, WorksOn};
 
 use crate::session_state::Common;
+use crate::waiting::wait_if_returned;
 use backing::Calls;
 use engine::{LinkIn, LinkOut, Served};
 use engine_turns::{BATCH, Sink, Source, TableHandle, ThreadShare, Turn, Worker, WriterRole};
@@ -174,15 +171,17 @@ pub fn take_turns<
     served: &mut Served<C, &Dirs>,
     left: &mut usize,
 ) -> bool
+    requires none_back { worker.old.handed_back ≡ 0 }
     ensures queues { (receives_on worker.new.jobs ≡ receives_on worker.old.jobs) × (sends_on worker.new.replies ≡ sends_on worker.old.replies) × (worker.new.number ≡ worker.old.number) }
     ensures settings { worker.new.session.settings ≡ worker.old.session.settings }
-    ensures worked { (settled : List (Option Settlement)) × WorkedAll (does_shared C.gives) worker.old.session.settings worker.old.number (standing (view worker.old.job_pass) (outbox (view worker.old.reply_pass) worker.old.handed_back) (means served.old kept.old.share (on_table_of table_handle.old.thread_log))) settled
-        (standing (view worker.new.job_pass) (outbox (view worker.new.reply_pass) worker.new.handed_back) (means served.new kept.new.share (on_table_of table_handle.new.thread_log))) }
+    ensures none_back { worker.new.handed_back ≡ 0 }
+    ensures worked { WorksOn (does_shared C.gives) worker.old.session.settings worker.old.number (stand_of worker.old served.old.calls kept.old.share (on_table_of table_handle.old.thread_log)) (stand_of worker.new served.new.calls kept.new.share (on_table_of table_handle.new.thread_log)) }
 {
     let mut is_busy = offer(common, left);
     for _ in *left..JOINED {
         match worker.turn(table_handle, &mut kept.share, served) {
             Turn::Worked(_settled) => {
+                wait_if_returned(&common.rt, worker);
                 common.signs.tell_worked();
                 *left = left.saturating_add(1);
                 is_busy = true;

@@ -7,7 +7,6 @@ use Rattle.terms.specs.declared.settings.Settings.{Settings}
 use Rattle.engine.specs.Reference.{Offer}
 use Rattle.engine.specs.Serving.{Behaviour}
 use Rattle.engine.specs.declared.served.Served.{Served}
-use Rattle.engine_queues.specs.declared.replies.QueuedReply.{QueuedReply}
 use Rattle.table_shared.specs.Runs.{Call}
 use Rattle.engine_turns.specs.TableCalls.{OnTable, TurnEnd, left_in, then_all}
 use Rattle.engine_turns.specs.Rights.{IsRight}
@@ -15,8 +14,6 @@ use Rattle.engine.specs.Batches.{bytes_of}
 use Rattle.engine_turns.specs.ReplyBuffers.{bytes_in}
 use Rattle.engine_turns.specs.Turns.{Means, MeetsJob, Met, Writes, means}
 use Rattle.engine_queues.specs.declared.job.Job.{Job}
-use Rattle.engine_queues.specs.declared.left.Left.{Left}
-use Rattle.engine_turns.specs.declared.replies.JobReply.{JobReply}
 use Rattle.engine_turns.specs.declared.working.Turn.{Turn}
 use Rattle.engine_turns.specs.declared.working.Turn.TheVariants.{Worked, Nothing}
 use Rattle.engine.specs.declared.bytes.ReplyBytes.{ReplyBytes}
@@ -58,10 +55,6 @@ met_on does settings job old served mid after handled met m e i = record {
 abbrev pub settled_by : Turn → Option Settlement
 settled_by (Worked settled) = settled
 settled_by Nothing = None
-
-abbrev pub left_by : Option (QueuedReply JobReply) → Option Left
-left_by None = None
-left_by (Some queued_reply) = queued_reply.reply.left
 
 -- nothing more was done on the table
 pub none_more : (on_table : OnTable) → on_table ≡ then_all on_table []

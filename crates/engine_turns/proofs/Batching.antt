@@ -25,7 +25,7 @@ use Rattle.engine_turns.specs.declared.replies.JobReply.{JobReply}
 
 -- ---- one more
 
-pub gets_more : (lane mid new : ReplyLane JobReply) (left left' : List (Option Left)) (bytes bytes' : List ReplyBytes) (queued_reply : QueuedReply JobReply) → GetsAll lane left bytes mid → new ≡ got_of mid (Some queued_reply)
+pub gets_more : (lane mid new : ReplyLane JobReply) (left left' : List (Option Left)) (bytes bytes' : List ReplyBytes) (queued_reply : QueuedReply JobReply) → GetsAll lane left bytes mid → new ≡ got_of mid queued_reply
     → left' ≡ left ++ queued_reply.reply.left ∷ [] → bytes' ≡ bytes ++ queued_reply.reply.bytes ∷ [] → GetsAll lane left' bytes' new
 gets_more lane mid new left left' bytes bytes' queued_reply g got l b = record {
   queued_replies = g.queued_replies ++ queued_reply ∷ [];
@@ -118,7 +118,7 @@ module _ {L : Type 0} (sends : L → List ℕ → Sent → L → Type 0) where
   none_offered link (queued_reply ∷ queued_replies) place lane lane' [] gets s = absurd s
   none_offered link (queued_reply ∷ queued_replies) place lane lane' (turn ∷ turns) gets s = (
     record { lane = gets.0; link = link; is_broken = true },
-    record { thread_log = queued_reply; got = gets.1; offers = record { link_is = refl; ends = s.0; broken_is = refl } },
+    record { queued_reply = queued_reply; got = gets.1; offers = record { link_is = refl; ends = s.0; broken_is = refl } },
     none_offered link queued_replies (suc place) gets.0 lane' turns gets.2 s.1,
   )
 
@@ -135,20 +135,20 @@ module _ {L : Type 0} (sends : L → List ℕ → Sent → L → Type 0) where
   each_offered (queued_reply ∷ queued_replies) (one ∷ sents) link link' lane lane' [] gets sent s = absurd s
   each_offered (queued_reply ∷ queued_replies) (Taken ∷ sents) link link' lane lane' (turn ∷ turns) gets sent s = (
     record { lane = gets.0; link = sent.0; is_broken = false },
-    record { thread_log = queued_reply; got = gets.1; offers = record { sent = Taken; offer = sent.1; ends = s.0; broken_is = refl } },
+    record { queued_reply = queued_reply; got = gets.1; offers = record { sent = Taken; offer = sent.1; ends = s.0; broken_is = refl } },
     subst (λ (b : Bool). Chain (WritesOne sends) (record { lane = gets.0; link = sent.0; is_broken = false }) turns (record { lane = lane'; link = link'; is_broken = b })) (sym (last_on Taken sents refl))
         (each_offered queued_replies sents sent.0 link' gets.0 lane' turns gets.2 sent.2 (places_on Taken sents 0 (map (λ (m : QueuedReply JobReply). m.reply.left) queued_replies) turns s.1)),
   )
   each_offered (queued_reply ∷ queued_replies) (Untaken ∷ sents) link link' lane lane' (turn ∷ turns) gets sent s = (
     record { lane = gets.0; link = sent.0; is_broken = false },
-    record { thread_log = queued_reply; got = gets.1; offers = record { sent = Untaken; offer = sent.1; ends = s.0; broken_is = refl } },
+    record { queued_reply = queued_reply; got = gets.1; offers = record { sent = Untaken; offer = sent.1; ends = s.0; broken_is = refl } },
     subst (λ (b : Bool). Chain (WritesOne sends) (record { lane = gets.0; link = sent.0; is_broken = false }) turns (record { lane = lane'; link = link'; is_broken = b })) (sym (last_on Untaken sents refl))
         (each_offered queued_replies sents sent.0 link' gets.0 lane' turns gets.2 sent.2 (places_on Untaken sents 0 (map (λ (m : QueuedReply JobReply). m.reply.left) queued_replies) turns s.1)),
   )
   each_offered (queued_reply ∷ queued_replies) (Broken ∷ sents) link link' lane lane' (turn ∷ turns) gets sent s =
       let lefts = map (λ (m : QueuedReply JobReply). m.reply.left) queued_replies in (
         record { lane = gets.0; link = link'; is_broken = true },
-        record { thread_log = queued_reply; got = gets.1; offers = record { sent = Broken; offer = sent.0; ends = s.0; broken_is = refl } },
+        record { queued_reply = queued_reply; got = gets.1; offers = record { sent = Broken; offer = sent.0; ends = s.0; broken_is = refl } },
         subst (λ (b : Bool). Chain (WritesOne sends) (record { lane = gets.0; link = link'; is_broken = true }) turns (record { lane = lane'; link = link'; is_broken = b })) (sym (last_broken sents sent.1))
             (none_offered link' queued_replies 0 gets.0 lane' turns gets.2 (subst (λ (ss : List Sent). SettlesEach ss 0 lefts turns) sent.1 (places_on Broken sents 0 lefts turns s.1))),
       )

@@ -33,10 +33,10 @@ use Rattle.engine_queues.specs.contracts.job.Job as Job
 use Rattle.engine_queues.specs.contracts.left.Left as Left
 use Rattle.engine_queues.proofs.replies.QueuedReply.TheSendSync as queued_reply
 use Rattle.engine_queues.specs.contracts.jobs.Fair as Fair
-use Rattle.engine_queues.specs.contracts.jobs.FairProtocolOptionHand.TheImpl as fair
+use Rattle.engine_queues.specs.contracts.jobs.FairProtocolHand.TheImpl as fair
 use Rattle.engine_queues.specs.contracts.jobs.Hand as Hand
 use Rattle.engine_queues.specs.contracts.replies.InOrder as InOrder
-use Rattle.engine_queues.specs.contracts.replies.InOrderProtocolOptionQueuedReplyReplyLane.TheImpl as in_order
+use Rattle.engine_queues.specs.contracts.replies.InOrderProtocolQueuedReplyReplyLane.TheImpl as in_order
 use Rattle.engine_queues.specs.contracts.replies.QueuedReply as QueuedReply
 use Rattle.engine_queues.specs.contracts.replies.ReplyLane as ReplyLane
 use Rattle.engine.proofs.bytes.ReplyBytes.TheSendSync as bytes
@@ -103,23 +103,17 @@ reply_send =
     let l = option.the_field_send Left.the_row left.the_send in
     search (heap.crosses, sendable) depth 20
 
-abbrev order : RattleType
-order = Option.the_row Job.the_row
-
 abbrev mail : RattleType
-mail = Option.the_row (QueuedReply.the_row JobReply.the_row)
-
-order_send : IsSend order
-order_send = option.the_send Job.the_row job.the_send
+mail = QueuedReply.the_row JobReply.the_row
 
 mail_send : IsSend mail
-mail_send = option.the_send (QueuedReply.the_row JobReply.the_row) (queued_reply.the_send JobReply.the_row reply_send)
+mail_send = queued_reply.the_send JobReply.the_row reply_send
 
 pub worker_send : IsSend (Worker.the_field).row
 worker_send =
     let a = session.the_field_send in
-    let b = receiver_send order (Hand.the_row Job.the_row) Fair.the_row (fair.ghosts Job.the_row) order_send in
-    let c = pass_send order (Hand.the_row Job.the_row) Fair.the_row (fair.ghosts Job.the_row) in
+    let b = receiver_send Job.the_row (Hand.the_row Job.the_row) Fair.the_row (fair.ghosts Job.the_row) job.the_send in
+    let c = pass_send Job.the_row (Hand.the_row Job.the_row) Fair.the_row (fair.ghosts Job.the_row) in
     let d = sender_send mail (ReplyLane.the_row JobReply.the_row) InOrder.the_row (in_order.ghosts JobReply.the_row) mail_send in
     let e = pass_send mail (ReplyLane.the_row JobReply.the_row) InOrder.the_row (in_order.ghosts JobReply.the_row) in
     search sendable depth 20

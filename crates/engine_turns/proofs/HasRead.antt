@@ -1,9 +1,9 @@
 -- One more receive of a reader.
-use Rattle.std.proofs.Common.{◌≡◌, Bool, is_some, List, Option, Some, None}
+use Rattle.std.proofs.Common.{◌≡◌, List, Option, Some, None}
 use Rattle.std.proofs.Math.Logic.{∥∥₁_map}
 use Rattle.engine.specs.Links.{Heard}
 use Rattle.engine.specs.declared.ends.SessionEnd.{SessionEnd}
-use Rattle.engine_turns.specs.Verdicts.{Queued, Reading, Reads, ReadsOn, goes, stays}
+use Rattle.engine_turns.specs.Verdicts.{Progress, Queued, Reading, Reads, ReadsOn, goes, stays}
 use Rattle.engine_turns.specs.Reads.{beginning, HasRead, HasReadAll, ReadsSo}
 
 module _ {L : Type 0} (receives : L → Heard → L → Type 0) (from : Option L) where
@@ -17,6 +17,6 @@ module _ {L : Type 0} (receives : L → Heard → L → Type 0) (from : Option L
   pub has_read_on : (now next : Reading L) (end : Option SessionEnd) → ∥ HasRead receives from None now ∥₁ → Reads receives now end next → ∥ HasRead receives from end next ∥₁
   has_read_on now next end h r = ∥∥₁_map h (λ (k : HasRead receives from None now). record { link = k.link; began = k.began; reads = reads_next (beginning k.link) now next end k.reads r })
 
-  pub has_ended : (now : Reading L) (end : Option SessionEnd) (put : List Queued) (last_job : Option Queued) (is_handed_back : Bool) → put ≡ now.so_far.put → last_job ≡ now.so_far.last_job → is_handed_back ≡ is_some now.so_far.handed_back
-      → ∥ HasRead receives from end now ∥₁ → ∥ HasReadAll receives from end put last_job is_handed_back ∥₁
-  has_ended now end put last_job is_handed_back p f b h = ∥∥₁_map h (λ (k : HasRead receives from end now). record { last = now; put_is = p; last_job_is = f; handed_back_is = b; read = k })
+  pub has_ended : (link : L) (now : Progress) (end : Option SessionEnd) (put : List Queued) (last_job : Option Queued) → put ≡ now.put → last_job ≡ now.last_job → now.handed_back ≡ None
+      → ∥ HasRead receives from end (record { link = link; so_far = now }) ∥₁ → ∥ HasReadAll receives from end put last_job link ∥₁
+  has_ended link now end put last_job p f b h = ∥∥₁_map h (λ (k : HasRead receives from end (record { link = link; so_far = now })). record { last = now; put_is = p; last_job_is = f; none_back = b; read = k })

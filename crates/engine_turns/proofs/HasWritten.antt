@@ -1,5 +1,5 @@
 -- More replies of a writer.
-use Rattle.std.proofs.Common.{◌≡◌, ℕ, Bool, false, List, [], ◌++◌, map, flat_map, Option, Some, refl, sym, ap₂, ◌∙◌}
+use Rattle.std.proofs.Common.{◌≡◌, ℕ, List, [], ◌++◌, map, flat_map, Option, Some, refl, sym, ap₂, ◌∙◌}
 use Rattle.std.proofs.Math.Logic.{∥∥₁_map}
 use Rattle.std.proofs.lemmas.Grind.{flat_map-append}
 use Rattle.std.proofs.lemmas.List.{map-append}
@@ -8,13 +8,11 @@ use Rattle.table_shared.specs.Runs.{Call}
 use Rattle.table_steps.specs.Answers.{Settlement}
 use Rattle.engine.proofs.Runs.{chain_append}
 use Rattle.engine.specs.declared.links.Sent.{Sent}
-use Rattle.engine_queues.specs.declared.replies.ReplyLane.{ReplyLane}
 use Rattle.engine_turns.specs.TableCalls.{OnTable, idle, then_all}
 use Rattle.engine_turns.specs.Batches.{Endings, WritesAll, WritesOne, Writing, endings}
 use Rattle.engine_turns.specs.Turns.{Ending}
-use Rattle.engine_turns.specs.declared.replies.JobReply.{JobReply}
 use Rattle.engine_turns.proofs.Answering.{and_more}
-use Rattle.engine_turns.specs.Writes.{unsent, writing, HasWritten, HasWrittenAll}
+use Rattle.engine_turns.specs.Writes.{unsent, HasWritten}
 
 module _ {L : Type 0} (sends : L → List ℕ → Sent → L → Type 0) where
   all_on : (old mid new : Writing L) (first next : Endings) → WritesAll sends old first mid → WritesAll sends mid next new
@@ -48,6 +46,3 @@ module _ {L : Type 0} (sends : L → List ℕ → Sent → L → Type 0) where
       writes = all_on (unsent k.link senders) now next k.all all k.writes w;
       calls_are = and_more (idle senders) before after k.all.on_table all.on_table k.calls_are calls;
     })
-
-    pub has_ended : (on_table : OnTable) (lane : ReplyLane JobReply) (link : L) (broken : Bool) → ∥ HasWritten sends from senders on_table (writing lane link broken) ∥₁ → ∥ HasWrittenAll sends from senders on_table lane broken ∥₁
-    has_ended on_table lane link broken h = ∥∥₁_map h (λ (k : HasWritten sends from senders on_table (writing lane link broken)). record { last = link; written = k })

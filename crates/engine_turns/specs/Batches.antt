@@ -51,7 +51,7 @@ pub record WritesAll {L : Type 0} (sends : L → List ℕ → Sent → L → Typ
 -- ---- the same by kinds: all are taken from the queue, then all are offered, then all answers are settled
 
 abbrev pub GetsOne : ReplyLane JobReply → QueuedReply JobReply → ReplyLane JobReply → Type 0
-GetsOne lane queued_reply lane' = lane' ≡ got_of lane (Some queued_reply)
+GetsOne lane queued_reply lane' = lane' ≡ got_of lane queued_reply
 
 -- these answers and bytes are those of the replies that were taken from the queue
 pub record GetsAll (lane : ReplyLane JobReply) (left : List (Option Left)) (bytes : List ReplyBytes) (lane' : ReplyLane JobReply) : Type 0 where

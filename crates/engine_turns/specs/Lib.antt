@@ -7,7 +7,6 @@ pub mod Known
 pub mod Rights
 pub mod ReplyBuffers
 pub mod Turns
-pub mod Works
 pub mod Queues
 pub mod Reads
 pub mod Writes

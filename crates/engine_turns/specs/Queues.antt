@@ -21,7 +21,7 @@ abbrev pub Queue : Type 0 → Type 0 → Type 0 → Type 0
 Queue X V P = Rows (Badge (Key X)) (Doing X V) (Rounds P) (Option X) (Key X) (Lockers Whole) Global
 
 abbrev pub JobQueue : Type 0
-JobQueue = Queue (Option Job) (Hand Job) Fair
+JobQueue = Queue Job (Hand Job) Fair
 
 abbrev pub ReplyQueue : Type 0
-ReplyQueue = Queue (Option (QueuedReply JobReply)) (ReplyLane JobReply) InOrder
+ReplyQueue = Queue (QueuedReply JobReply) (ReplyLane JobReply) InOrder

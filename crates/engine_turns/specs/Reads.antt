@@ -1,8 +1,8 @@
 -- What a reader has done since it began.
-use Rattle.std.specs.Prelude.{◌≡◌, Bool, false, is_some, List, [], Option, Some, None}
+use Rattle.std.specs.Prelude.{◌≡◌, false, List, [], Option, Some, None}
 use Rattle.engine.specs.Links.{Heard}
 use Rattle.engine.specs.declared.ends.SessionEnd.{SessionEnd}
-use Rattle.engine_turns.specs.Verdicts.{Queued, Reading, ReadsAll, ReadsOn}
+use Rattle.engine_turns.specs.Verdicts.{Progress, Queued, Reading, ReadsAll, ReadsOn}
 
 -- a reader that has received nothing
 abbrev pub beginning : {L : Type 0} → L → Reading L
@@ -19,11 +19,11 @@ pub record HasRead {L : Type 0} (receives : L → Heard → L → Type 0) (from 
   pub began : from ≡ Some link
   pub reads : ReadsSo receives (beginning link) end now
 
--- the same, after its link is gone: these jobs were queued, this frame ended the session, if one did, and whether a job
--- was returned
-pub record HasReadAll {L : Type 0} (receives : L → Heard → L → Type 0) (from : Option L) (end : Option SessionEnd) (put : List Queued) (last_job : Option Queued) (is_handed_back : Bool) : Type 0 where
-  pub last : Reading L
-  pub put_is : put ≡ last.so_far.put
-  pub last_job_is : last_job ≡ last.so_far.last_job
-  pub handed_back_is : is_handed_back ≡ is_some last.so_far.handed_back
-  pub read : HasRead receives from end last
+-- after it has ended: these jobs were queued, this frame ended the session, if one did, and the link is left like this. No job was
+-- returned by the queue
+pub record HasReadAll {L : Type 0} (receives : L → Heard → L → Type 0) (from : Option L) (end : Option SessionEnd) (put : List Queued) (last_job : Option Queued) (left : L) : Type 0 where
+  pub last : Progress
+  pub put_is : put ≡ last.put
+  pub last_job_is : last_job ≡ last.last_job
+  pub none_back : last.handed_back ≡ None
+  pub read : HasRead receives from end (record { link = left; so_far = last })

@@ -118,7 +118,7 @@ outbox lane handed_back = record { lane = lane; handed_back = handed_back }
 -- Exactly one reply is put, or else the queue returns it, which is counted; then its answer is settled as untaken, and
 -- the handle of a listing that was stored for it is closed. If nothing is written, nothing is put or counted.
 pub data PutsReply (settings : Settings) (from : ℕ) (job : Job) (met : Met) (old : Outbox) (did : Ending) (new : Outbox) : Type 0 where
-  is_put : (bytes : List ℕ) (queued_reply : QueuedReply JobReply) → met.said ≡ Some bytes → IsReplyTo settings from job bytes met.turn_end queued_reply → new ≡ outbox (queued_replies.put_of old.lane (Some queued_reply)) old.handed_back → did.settled ≡ settled_in met.turn_end → did.folders ≡ [] → did.on_table ≡ []
+  is_put : (bytes : List ℕ) (queued_reply : QueuedReply JobReply) → met.said ≡ Some bytes → IsReplyTo settings from job bytes met.turn_end queued_reply → new ≡ outbox (queued_replies.put_of old.lane queued_reply) old.handed_back → did.settled ≡ settled_in met.turn_end → did.folders ≡ [] → did.on_table ≡ []
       → PutsReply settings from job met old did new
   handed_back : (bytes : List ℕ) → met.said ≡ Some bytes → new ≡ outbox old.lane (old.handed_back + 1) → did.settled ≡ untaken_in met.turn_end → GivesUp false (put_in (left_in met.turn_end)) did.folders → did.on_table ≡ settles_of (left_in met.turn_end) false
       → PutsReply settings from job met old did new
@@ -136,7 +136,7 @@ standing taken out means = record { hand = taken; out = out; means = means }
 
 -- it has taken this job too
 abbrev pub takes : {C D : Type 0} → Standing C D → Job → Standing C D
-takes old job = record { hand = taken_of old.hand (Some job); out = old.out; means = old.means }
+takes old job = record { hand = taken_of old.hand job; out = old.out; means = old.means }
 
 -- a job was handled and then answered, without being taken from the queue
 pub record AnswersJob {C D : Type 0} (does : Behaviour C D) (settings : Settings) (from : ℕ) (job : Job) (old : Standing C D) (settled : Option Settlement) (new : Standing C D) : Type 0 where
@@ -173,6 +173,6 @@ Offers sends queued_reply did link link' false broken = OffersBytes sends queued
 
 -- the first reply was taken from the queue and offered, and its answer settled
 pub record Wrote {L : Type 0} (sends : L → List ℕ → Sent → L → Type 0) (lane : ReplyLane JobReply) (link : L) (before : Bool) (did : Ending) (lane' : ReplyLane JobReply) (link' : L) (after : Bool) : Type 0 where
-  pub thread_log : QueuedReply JobReply
-  pub got : lane' ≡ queued_replies.got_of lane (Some thread_log)
-  pub offers : Offers sends thread_log did link link' before after
+  pub queued_reply : QueuedReply JobReply
+  pub got : lane' ≡ queued_replies.got_of lane queued_reply
+  pub offers : Offers sends queued_reply did link link' before after

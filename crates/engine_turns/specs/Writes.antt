@@ -26,8 +26,3 @@ pub record HasWritten {L : Type 0} (sends : L → List ℕ → Sent → L → Ty
   pub all : Endings
   pub writes : WritesAll sends (unsent link senders) all now
   pub calls_are : on_table ≡ then_all (idle senders) all.on_table
-
--- the same, after its link is gone
-pub record HasWrittenAll {L : Type 0} (sends : L → List ℕ → Sent → L → Type 0) (from : Option L) (senders : ℕ) (on_table : OnTable) (lane : ReplyLane JobReply) (is_broken : Bool) : Type 0 where
-  pub last : L
-  pub written : HasWritten sends from senders on_table (writing lane last is_broken)

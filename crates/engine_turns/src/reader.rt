@@ -117,14 +117,14 @@ impl Reader {
             self.handed_back = Some(job);
             return false;
         };
-        match self.to.send_as::<Puts, H>(rt, &mut self.pass, Some(job)) {
+        match self.to.send_as::<Puts, H>(rt, &mut self.pass, job) {
             Ok(()) => {
                 self.next = after;
                 self.agreed = agreed;
                 return true;
             }
             Err(back) => {
-                self.handed_back = back.into_inner();
+                self.handed_back = Some(back.into_inner());
                 return false;
             }
         }
@@ -146,7 +146,7 @@ impl Reader {
                         return Some(SessionEnd::Destroyed);
                     }
                     // This ends the session as lack of memory does, and not as a broken link: a link breaks only at a
-                    // receive or a send. It does not happen, since the coordinator holds a receiver of the queue.
+                    // receive or a send. It does not happen, since the workers hold receivers of the queue.
                     if !self.queue(rt, frame) {
                         return Some(SessionEnd::Memory);
                     }

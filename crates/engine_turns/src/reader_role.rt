@@ -1,6 +1,6 @@
 //! The reader as a role.
 
-ghost use Rattle.std.specs.Prelude.{◌≡◌, ◌+◌, is_some, length, map, Some, IfSome, IfNone};
+ghost use Rattle.std.specs.Prelude.{◌≡◌, ◌+◌, length, map, None, Some, IfSome, IfNone};
 ghost use Rattle.std.specs.Option.{option_map};
 ghost use Rattle.crossbeam_channel.specs.Claims.{view, IsSeatAt};
 ghost use Rattle.crossbeam_channel.specs.Ends.{sends_on};
@@ -16,7 +16,8 @@ use engine::{LinkIn, SessionEnd};
 use std::marker::PhantomData;
 use std::sync::Wait;
 
-/// A reader with its link. It has read everything that it queued since it began with the link of `S`.
+/// A reader with its link. It has read everything that it queued since it began with the link of `S`, and the queue has returned
+/// nothing to it.
 #[derive(Drop)]
 pub struct ReaderRole<I: LinkIn + Drop, S: Source<I>> {
     pub reader: Reader,
@@ -26,7 +27,19 @@ pub struct ReaderRole<I: LinkIn + Drop, S: Source<I>> {
     pub source: PhantomData<S>,
     ghost queue: { S.jobs ≡ Some (sends_on reader.to) },
     ghost parts: { (view reader.pass).parts + S.parted ≡ 8 },
+    ghost none_back: { reader.handed_back ≡ None },
     ghost read: { ∥ HasRead I.receives S.heard_from end (reading link reader) ∥₁ },
+}
+
+/// Does not return if the queue has returned a job.
+fn wait_if_returned<H: Wait>(rt: &H, reader: &Reader)
+    ensures { reader.now.handed_back ≡ None }
+{
+    if reader.handed_back.is_none() {
+        return;
+    }
+    for _ in rt.forever() {}
+    unreachable!()
 }
 
 impl<I: LinkIn + Drop, S: Source<I>> ReaderRole<I, S> {
@@ -36,6 +49,7 @@ impl<I: LinkIn + Drop, S: Source<I>> ReaderRole<I, S> {
         requires parts { (view reader.pass).parts + S.parted ≡ 8 }
         requires from { S.heard_from ≡ Some link }
         requires fresh { reading link reader ≡ beginning link }
+        requires none_back { reader.handed_back ≡ None }
         ensures { (result.reader ≡ reader) × (result.link ≡ link) × (result.end ≡ None) }
     {
         ReaderRole {
@@ -47,25 +61,30 @@ impl<I: LinkIn + Drop, S: Source<I>> ReaderRole<I, S> {
     }
 
     /// Makes one receive, and queues a job for each frame that is then whole. After the session has ended it does
-    /// nothing.
+    /// nothing. If the queue returned a job, this would wait forever: the queue has a receiver as long as there is a
+    /// worker.
     pub fn turn<H: Wait>(&mut self, rt: &H)
         ensures over { IfSome self.old.end (λ _. self.new ≡ self.old) }
         ensures reads { IfNone self.old.end (Reads I.receives (reading self.old.link self.old.reader) self.new.end (reading self.new.link self.new.reader)) }
     {
         match self.end {
             Some(_) => {}
-            None => self.end = self.reader.turn(rt, &mut self.link),
+            None => {
+                let end = self.reader.turn(rt, &mut self.link);
+                wait_if_returned(rt, &self.reader);
+                self.end = end;
+            }
         }
     }
 
-    /// What is left of the reader after its end.
-    pub fn into_end(self) -> ReaderEnd
-        ensures seat { IfSome S.jobs (λ jobs. IsSeatAt jobs result.pass) }
-        ensures parts { (view result.pass).parts + S.parted ≡ 8 }
-        ensures takes_none { length (view result.pass).taken ≡ 0 }
-        ensures numbered { map (λ j. j.ordinal) (view result.pass).put ≡ numbers 0 (length (view result.pass).put) }
-        ensures same { (result.end ≡ self.end) × (result.last_job ≡ self.reader.last_job) × (result.is_handed_back ≡ is_some self.reader.handed_back) }
-        ensures read { ∥ HasReadAll I.receives S.heard_from result.end (queued_of (view result.pass).put) (option_map shown result.last_job) result.is_handed_back ∥₁ }
+    /// What is left of the reader and its link after its end.
+    pub fn into_end(self) -> (ReaderEnd, I)
+        ensures seat { IfSome S.jobs (λ jobs. IsSeatAt jobs result.0.pass) }
+        ensures parts { (view result.0.pass).parts + S.parted ≡ 8 }
+        ensures takes_none { length (view result.0.pass).taken ≡ 0 }
+        ensures numbered { map (λ j. j.ordinal) (view result.0.pass).put ≡ numbers 0 (length (view result.0.pass).put) }
+        ensures same { (result.0.end ≡ self.end) × (result.0.last_job ≡ self.reader.last_job) × (view result.0.pass ≡ view self.reader.pass) }
+        ensures read { ∥ HasReadAll I.receives S.heard_from result.0.end (queued_of (view result.0.pass).put) (option_map shown result.0.last_job) result.1 ∥₁ }
     {
         let ReaderRole {
             reader,
@@ -73,7 +92,6 @@ impl<I: LinkIn + Drop, S: Source<I>> ReaderRole<I, S> {
             end,
             source: _,
         } = self;
-        drop(link);
-        ReaderEnd::new(reader, end)
+        (ReaderEnd::new(reader, end), link)
     }
 }

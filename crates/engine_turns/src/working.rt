@@ -1,6 +1,6 @@
 //! A worker's turns.
 
-ghost use Rattle.std.specs.Prelude.{◌≡◌, ◌<◌, ◌+◌, ◌^◌, length, true, Some, Option, List, ℕ};
+ghost use Rattle.std.specs.Prelude.{◌≡◌, ◌<◌, ◌+◌, ◌^◌, ◌⊎◌, length, true, Some, Option, List, ℕ};
 ghost use Rattle.crossbeam_channel.specs.Claims.{view, IsSeatAt};
 ghost use Rattle.crossbeam_channel.specs.Ends.{sends_on, receives_on};
 ghost use Rattle.table_steps.specs.Answers.{Settlement};
@@ -98,14 +98,18 @@ pub struct Worker {
     pub job_pass: JobPass<Job>,
     pub replies: ReplySender<JobReply>,
     pub reply_pass: ReplyPass<JobReply>,
-    pub count: u64,
+    /// How many jobs it has taken.
+    pub taken: u64,
+    /// How many replies it has put.
+    pub put: u64,
     /// How many of its replies the queue returned.
     pub handed_back: u64,
     ghost seated: { IsSeatAt (receives_on jobs) job_pass },
     ghost reply_seated: { IsSeatAt (sends_on replies) reply_pass },
     ghost one_part: { (view job_pass).parts ≡ 1 },
     ghost puts_none: { length (view job_pass).put ≡ 0 },
-    ghost counted: { length (view job_pass).taken ≡ count },
+    ghost counted: { length (view job_pass).taken ≡ taken },
+    ghost put_counted: { length (view reply_pass).put ≡ put },
     ghost sends: { (view reply_pass).sends ≡ true },
     ghost from: { (view reply_pass).from ≡ number },
 }
@@ -128,7 +132,8 @@ impl Worker {
     {
         let Passes {
             number,
-            count,
+            taken,
+            put,
             job_pass,
             reply_pass,
         } = passes;
@@ -145,7 +150,8 @@ impl Worker {
             job_pass,
             replies,
             reply_pass,
-            count,
+            taken,
+            put,
             handed_back: 0,
         }
     }
@@ -163,14 +169,16 @@ impl Worker {
             job_pass,
             replies,
             reply_pass,
-            count,
+            taken,
+            put,
             handed_back: _,
         } = self;
         drop(jobs);
         drop(replies);
         Passes {
             number,
-            count,
+            taken,
+            put,
             job_pass,
             reply_pass,
         }
@@ -187,7 +195,7 @@ impl Worker {
         said: Option<ReplyBytes>,
         turn_result: TurnResult,
     ) -> Option<Settled>
-        requires countable { self.old.handed_back + 1 < 2 ^ 64 }
+        requires countable { (self.old.handed_back + 1 < 2 ^ 64) × (self.old.put + 1 < 2 ^ 64) }
         requires right { (bytes : ReplyBytes) → said ≡ Some bytes → IsRight self.old.session.settings job.now (bytes_of bytes) (left_in (turn_end_of turn_result)) }
         ensures puts { ByBoth D.keeps dirs.old (on_table_of table_handle.old.thread_log) dirs.new (on_table_of table_handle.new.thread_log) (λ folders calls. PutsReply self.old.session.settings self.old.number job.now (record { said = bytes_in said; turn_end = turn_end_of turn_result }) (outbox (view self.old.reply_pass) self.old.handed_back) (ending result folders calls) (outbox (view self.new.reply_pass) self.new.handed_back)) }
         ensures entries { share.new.totals.entries ≡ share.old.totals.entries }
@@ -205,28 +213,28 @@ impl Worker {
         };
         match self
             .replies
-            .send_as::<Posts, H>(table_handle.rt, &mut self.reply_pass, Some(queued_reply))
+            .send_as::<Posts, H>(table_handle.rt, &mut self.reply_pass, queued_reply)
         {
-            Ok(()) => settled,
-            Err(back) => match back.into_inner() {
-                Some(queued_reply) => {
-                    self.handed_back += 1;
-                    let QueuedReply { from: _, reply } = queued_reply;
-                    let left = reply.into_left();
-                    let (rt, shared_table) = (table_handle.rt, table_handle.shared_table);
-                    let untaken = settle_left(
-                        rt,
-                        shared_table,
-                        &mut table_handle.thread_log,
-                        share,
-                        dirs,
-                        left,
-                        false,
-                    );
-                    untaken.or(settled)
-                }
-                None => unreachable!(),
-            },
+            Ok(()) => {
+                self.put += 1;
+                settled
+            }
+            Err(back) => {
+                self.handed_back += 1;
+                let QueuedReply { from: _, reply } = back.into_inner();
+                let left = reply.into_left();
+                let (rt, shared_table) = (table_handle.rt, table_handle.shared_table);
+                let untaken = settle_left(
+                    rt,
+                    shared_table,
+                    &mut table_handle.thread_log,
+                    share,
+                    dirs,
+                    left,
+                    false,
+                );
+                untaken.or(settled)
+            }
         }
     }
 
@@ -238,7 +246,7 @@ impl Worker {
         served: &mut Served<C, D>,
         job: &Job,
     ) -> Option<Settled>
-        requires countable { self.old.handed_back + 1 < 2 ^ 64 }
+        requires countable { (self.old.handed_back + 1 < 2 ^ 64) × (self.old.put + 1 < 2 ^ 64) }
         ensures queues { (receives_on self.new.jobs ≡ receives_on self.old.jobs) × (sends_on self.new.replies ≡ sends_on self.old.replies) × (self.new.number ≡ self.old.number) }
         ensures answers { AnswersJob (does C.gives D.keeps) self.old.session.settings self.old.number job.now (standing (view self.old.job_pass) (outbox (view self.old.reply_pass) self.old.handed_back) (means served.old share.old (on_table_of table_handle.old.thread_log))) result
             (standing (view self.new.job_pass) (outbox (view self.new.reply_pass) self.new.handed_back) (means served.new share.new (on_table_of table_handle.new.thread_log))) }
@@ -255,8 +263,8 @@ impl Worker {
         )
     }
 
-    /// Handles a job that was not in the queue, and queues its reply. It does nothing if the count of replies that were
-    /// returned is at its maximum.
+    /// Handles a job that was not in the queue, and queues its reply. It does nothing if a count of its replies is at its
+    /// maximum.
     pub fn answer<'a, H: Wait, T: Ledgers, O: Opening, C: Calls, D: Folders>(
         &mut self,
         table_handle: &mut TableHandle<'a, H, T, O>,
@@ -267,10 +275,10 @@ impl Worker {
         ensures queues { (receives_on self.new.jobs ≡ receives_on self.old.jobs) × (sends_on self.new.replies ≡ sends_on self.old.replies) × (self.new.number ≡ self.old.number) }
         ensures answers { (settled : Option Settlement) → result ≡ Turn.Worked settled → AnswersJob (does C.gives D.keeps) self.old.session.settings self.old.number job.now (standing (view self.old.job_pass) (outbox (view self.old.reply_pass) self.old.handed_back) (means served.old share.old (on_table_of table_handle.old.thread_log))) settled
             (standing (view self.new.job_pass) (outbox (view self.new.reply_pass) self.new.handed_back) (means served.new share.new (on_table_of table_handle.new.thread_log))) }
-        ensures nothing { result ≡ Turn.Nothing → (self.old.handed_back + 1 ≡ 2 ^ 64) × (self.new ≡ self.old) × (share.new ≡ share.old) × (served.new ≡ served.old) × (table_handle.new ≡ table_handle.old) }
+        ensures nothing { result ≡ Turn.Nothing → ((self.old.handed_back + 1 ≡ 2 ^ 64) ⊎ (self.old.put + 1 ≡ 2 ^ 64)) × (self.new ≡ self.old) × (share.new ≡ share.old) × (served.new ≡ served.old) × (table_handle.new ≡ table_handle.old) }
         ensures settings { self.new.session.settings ≡ self.old.session.settings }
     {
-        if self.handed_back == u64::MAX {
+        if self.handed_back == u64::MAX || self.put == u64::MAX {
             return Turn::Nothing;
         }
         Turn::Worked(self.meet(table_handle, share, served, job))
@@ -289,21 +297,21 @@ impl Worker {
         ensures nothing { result ≡ Turn.Nothing → (view self.new.job_pass ≡ view self.old.job_pass) × (view self.new.reply_pass ≡ view self.old.reply_pass) × (self.new.handed_back ≡ self.old.handed_back) × (share.new ≡ share.old) × (served.new ≡ served.old) × (table_handle.new ≡ table_handle.old) }
         ensures settings { self.new.session.settings ≡ self.old.session.settings }
     {
-        if self.handed_back == u64::MAX {
+        if self.handed_back == u64::MAX || self.put == u64::MAX {
             return Turn::Nothing;
         }
-        let Some(after) = self.count.checked_add(1) else {
+        let Some(after) = self.taken.checked_add(1) else {
             return Turn::Nothing;
         };
         match self
             .jobs
             .try_recv_as::<Takes, H>(table_handle.rt, &mut self.job_pass)
         {
-            Ok(Some(job)) => {
-                self.count = after;
+            Ok(job) => {
+                self.taken = after;
                 Turn::Worked(self.meet(table_handle, share, served, &job))
             }
-            Ok(None) | Err(_) => Turn::Nothing,
+            Err(_) => Turn::Nothing,
         }
     }
 }

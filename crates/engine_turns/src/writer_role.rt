@@ -6,7 +6,7 @@ ghost use Rattle.crossbeam_channel.specs.Ends.{receives_on};
 ghost use Rattle.engine_turns.specs.TableCalls.{idle, on_table_of};
 ghost use Rattle.engine_turns.specs.Batches.{endings, WritesAll};
 ghost use Rattle.engine_turns.specs.Turns.{ByBoth};
-ghost use Rattle.engine_turns.specs.Writes.{none_got, writing, HasWritten, HasWrittenAll};
+ghost use Rattle.engine_turns.specs.Writes.{none_got, writing, HasWritten};
 
 use crate::origins::Sink;
 use crate::replies::JobReply;
@@ -39,11 +39,15 @@ pub struct WriterRole<T: Ledgers, N: Opening, O: LinkOut + Drop, S: Sink<O>> {
 
 /// What is left of a writer that has ended.
 #[derive(Drop)]
-pub struct WriterEnd<T: Ledgers, N: Opening> {
+pub struct WriterEnd<T: Ledgers, N: Opening, O: LinkOut + Drop> {
     pub pass: ReplyPass<JobReply>,
+    /// How many replies it took.
+    pub got: u64,
+    pub link: O,
     pub is_broken: bool,
     pub kept: ThreadShare<T>,
     pub thread_log: ThreadLog<LogEntry<T>, Runs<N>>,
+    ghost counted: { length (view pass).got ≡ got },
 }
 
 impl<T: Ledgers, N: Opening, O: LinkOut + Drop, S: Sink<O>> WriterRole<T, N, O, S> {
@@ -94,15 +98,16 @@ impl<T: Ledgers, N: Opening, O: LinkOut + Drop, S: Sink<O>> WriterRole<T, N, O, 
         )
     }
 
-    /// What is left of the writer after its end.
-    pub fn into_end(self) -> WriterEnd<T, N>
+    /// What is left of the writer and its link after its end.
+    pub fn into_end(self) -> WriterEnd<T, N, O>
         ensures seat { IfSome S.replies (λ replies. IsSeatAt replies result.pass) }
         ensures gets { (view result.pass).gets ≡ true }
         ensures made { (view result.pass).made ≡ S.senders }
         ensures told { length (view result.pass).known ≡ 0 }
         ensures broken { result.is_broken ≡ self.writer.is_broken }
+        ensures pass { view result.pass ≡ view self.writer.pass }
         ensures kept { (result.kept ≡ self.kept) × (result.thread_log ≡ self.thread_log) }
-        ensures wrote { ∥ HasWrittenAll O.sends S.sent_to S.senders (on_table_of result.thread_log) (view result.pass) result.is_broken ∥₁ }
+        ensures wrote { ∥ HasWritten O.sends S.sent_to S.senders (on_table_of result.thread_log) (writing (view result.pass) result.link result.is_broken) ∥₁ }
     {
         let WriterRole {
             writer,
@@ -111,10 +116,11 @@ impl<T: Ledgers, N: Opening, O: LinkOut + Drop, S: Sink<O>> WriterRole<T, N, O, 
             thread_log,
             sink: _,
         } = self;
-        drop(link);
-        let is_broken = writer.is_broken;
+        let (got, is_broken) = (writer.got, writer.is_broken);
         WriterEnd {
             pass: writer.into_pass(),
+            got,
+            link,
             is_broken,
             kept,
             thread_log,

@@ -23,6 +23,8 @@ use table_shared::{LogEntry, Opening, Runs, SharedTable};
 pub struct Writer {
     pub replies: ReplyReceiver<JobReply>,
     pub pass: ReplyPass<JobReply>,
+    /// How many replies it has taken.
+    pub got: u64,
     /// Whether the link is broken: then nothing more is offered.
     pub is_broken: bool,
     /// What was last taken from the queue together.
@@ -30,6 +32,7 @@ pub struct Writer {
     ghost seated: { IsSeatAt (receives_on replies) pass },
     ghost gets: { (view pass).gets ≡ true },
     ghost knows_none: { length (view pass).known ≡ 0 },
+    ghost counted: { length (view pass).got ≡ got },
 }
 
 impl Writer {
@@ -43,6 +46,7 @@ impl Writer {
         requires seat { IsSeatAt (receives_on replies) pass }
         requires gets { (view pass).gets ≡ true }
         requires knows_none { length (view pass).known ≡ 0 }
+        requires gets_none { length (view pass).got ≡ 0 }
         ensures queue { IfOk result (λ w. receives_on w.replies ≡ receives_on replies) }
         ensures pass { IfOk result (λ w. view w.pass ≡ view pass) }
         ensures whole { IfOk result (λ w. w.is_broken ≡ false) }
@@ -51,6 +55,7 @@ impl Writer {
         Ok(Writer {
             replies,
             pass,
+            got: 0,
             is_broken: false,
             batch,
         })
@@ -61,10 +66,12 @@ impl Writer {
         ensures seat { IsSeatAt (receives_on self.replies) result }
         ensures pass { view result ≡ view self.pass }
         ensures told { ((view result).gets ≡ true) × (length (view result).known ≡ 0) }
+        ensures counted { length (view result).got ≡ self.got }
     {
         let Writer {
             replies,
             pass,
+            got: _,
             is_broken: _,
             batch: _,
         } = self;
@@ -72,7 +79,7 @@ impl Writer {
         pass
     }
 
-    /// Takes what is queued, at most one batch. It does not wait.
+    /// Takes what is queued, at most one batch, and none after the count of all replies is at its maximum. It does not wait.
     fn take_queued<H: Wait>(&mut self, rt: &H)
         ensures queue { receives_on self.new.replies ≡ receives_on self.old.replies }
         ensures made { (view self.new.pass).made ≡ (view self.old.pass).made }
@@ -82,12 +89,16 @@ impl Writer {
     {
         self.batch.clear();
         for _ in 0..BATCH {
+            let Some(after) = self.got.checked_add(1) else {
+                return;
+            };
             match self.replies.try_recv_as::<Gets, H>(rt, &mut self.pass) {
-                Ok(Some(queued_reply)) => {
+                Ok(queued_reply) => {
+                    self.got = after;
                     let QueuedReply { from: _, reply } = queued_reply;
                     self.batch.put(reply);
                 }
-                Ok(None) | Err(_) => return,
+                Err(_) => return,
             }
         }
     }

@@ -3,3 +3,4 @@ pub mod Listings
 pub mod Names
 pub mod Pages
 pub mod Lending
+pub mod Counts

@@ -1,10 +1,10 @@
 //! The open folders of a session.
 
-ghost use Rattle.std.specs.Prelude.{◌≡◌, ◌≤◌, ℕ, true, length, IfErr, IfOk, IfSome};
+ghost use Rattle.std.specs.Prelude.{◌≡◌, IfErr, IfOk, IfSome};
 ghost use Rattle.handles.specs.Calls.{handle_in, IsPutWithin};
 ghost use Rattle.handles.specs.Listings.{IsLent};
 
-use crate::counts::Count;
+use crate::counts::Counts;
 use crate::folders::Folders;
 use crate::lent::Lent;
 use crate::limits::FolderLimits;
@@ -13,6 +13,7 @@ use crate::stored::{OwnHandle, Stored};
 use sharded_slab::RuledSlab;
 use std::alloc::{AllocError, Global};
 use std::marker::Model;
+use std::sync::Arc;
 
 /// The store has several parts, since one that another thread is just enlarging has no room for a moment, and then the
 /// next one is tried.
@@ -23,8 +24,7 @@ const PARTS: usize = 8;
 #[derive(Drop)]
 pub struct Dirs {
     stored: RuledSlab<Stored, OwnHandle>,
-    folders: Count,
-    names: Count,
+    counts: Arc<Counts>,
 }
 
 impl Model for Dirs {
@@ -32,7 +32,9 @@ impl Model for Dirs {
 
     ghost Value = { FolderLimits };
 
-    ghost view = { λ d. record { folders = d.folders.most; names = d.names.most } };
+    ghost use Rattle.std.specs.Arc.{arc_value};
+
+    ghost view = { λ d. (arc_value d.counts).limits };
 }
 
 impl Dirs {
@@ -49,44 +51,8 @@ impl Dirs {
     {
         Ok(Dirs {
             stored: RuledSlab::new(alloc, PARTS)?,
-            folders: Count::new(limits.folders),
-            names: Count::new(limits.names),
+            counts: Arc::new(alloc, Counts::new(alloc, limits)?)?,
         })
-    }
-
-    /// Counts one more folder with that many names. False means that it would exceed a limit, and then nothing is
-    /// counted.
-    fn count(&self, names: u64) -> bool
-        ensures { result ≡ true → (1 ≤ self.now.folders) × (names ≤ self.now.names) }
-    {
-        if self.folders.take(1).is_none() {
-            return false;
-        }
-        if self.names.take(names).is_none() {
-            self.folders.give_back(1);
-            return false;
-        }
-        true
-    }
-
-    /// Counts one folder with that many names less.
-    fn give_back(&self, names: u64) {
-        self.folders.give_back(1);
-        self.names.give_back(names);
-    }
-
-    /// Stores the listing under a new handle, which is written into it. If there is no room, the listing is returned
-    /// unchanged.
-    fn store(&self, listing: Listing) -> Result<u64, Listing>
-        ensures { IfErr result (λ back. back ≡ listing) }
-    {
-        let Some(vacant) = self.stored.vacant_entry(0) else {
-            return Err(listing);
-        };
-        // The handle is written before the listing is shared, so that every reader finds the listing's own key in it.
-        let fh = vacant.key() as u64;
-        vacant.insert(Stored::new(listing.under(fh)));
-        Ok(fh)
     }
 
     /// Stores the listing and returns its handle, which is written into it. If that would exceed a limit, or memory is
@@ -96,15 +62,19 @@ impl Dirs {
         ensures within { IsPutWithin self.now listing (handle_in result) }
         ensures back { IfErr result (λ back. back ≡ listing) }
     {
-        let names = listing.entries().len() as u64;
-        if !self.count(names) {
+        let Ok(counts) = Arc::try_clone(&self.counts) else {
             return Err(listing);
-        }
-        let put = self.store(listing);
-        if put.is_err() {
-            self.give_back(names);
-        }
-        put
+        };
+        let Some(vacant) = self.stored.vacant_entry(0) else {
+            return Err(listing);
+        };
+        let Some(taken) = counts.take(listing.entries().len() as u64) else {
+            return Err(listing);
+        };
+        // The handle is written before the listing is shared, so that every reader finds the listing's own key in it.
+        let fh = vacant.key() as u64;
+        vacant.insert(Stored::new(listing.under(fh), counts, taken));
+        Ok(fh)
     }
 
     /// Lends the listing under the handle. None means EBADF (own). It is also the answer if the listing is already lent
@@ -116,21 +86,24 @@ impl Dirs {
         Some(Lent::new(entry))
     }
 
+    /// Closes the handle, and lends its listing once more. None means EBADF (own). If several calls close the same
+    /// handle, exactly one gets the listing: the store has one token of what was counted for it, and gives it away once.
+    pub fn close(&self, fh: u64) -> Option<Lent<'_>>
+        ensures { IfSome result (IsLent fh) }
+    {
+        let last = self.stored.get(fh as usize)?;
+        // The slab would confirm every removal while the listing is lent, so the token decides which call closed it.
+        if !last.value().close() {
+            return None;
+        }
+        self.stored.remove(fh as usize);
+        Some(Lent::new(last))
+    }
+
     /// Closes the handle. The result says whether there was a listing; false means EBADF (own). If several calls close
     /// the same handle, exactly one gets true.
     pub fn retire(&self, fh: u64) -> bool {
-        let Some(entry) = self.stored.get(fh as usize) else {
-            return false;
-        };
-        // The slab would confirm every removal while the listing is lent, so a mark in it decides which call closed it.
-        if !entry.value().retire() {
-            return false;
-        }
-        let names = entry.value().listing.entries().len() as u64;
-        drop(entry);
-        self.stored.remove(fh as usize);
-        self.give_back(names);
-        true
+        self.close(fh).is_some()
     }
 }
 

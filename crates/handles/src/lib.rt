@@ -1,6 +1,7 @@
 //! What a client sees of an open folder: its listing, and pages of it.
 #![tactic(auto)]
 
+mod counted;
 mod counts;
 mod dirs;
 mod folders;

@@ -1,3 +1,4 @@
+pub mod Below
 pub mod Calls
 pub mod Changes
 pub mod Errors
@@ -9,3 +10,4 @@ pub mod Pages
 pub mod Places
 pub mod Stats
 pub mod Steps
+pub mod Ways

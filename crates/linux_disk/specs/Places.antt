@@ -4,6 +4,7 @@ use Rattle.std.specs.Fmt.{decimal}
 use Rattle.disk.specs.Names.{IsLawfulName}
 use Rattle.disk.specs.declared.stat.Stat.{Stat}
 use Rattle.linux_disk.specs.Calls.{Done, Inspected}
+use Rattle.linux_disk.specs.Ways.{IsRest}
 
 -- what leads to the folder that is open under that number, and a slash
 abbrev pub way_to : ℕ → List ℕ
@@ -23,6 +24,18 @@ pub record IsGuarded (guards : List ℕ → Type 0) (number : ℕ) (text : List 
   pub is_place : IsPlace number place
   pub spelled : text ≡ guard ++ place
 
+-- the same in a folder that is reached by names, or that folder itself
+pub record IsBelow (guards : List ℕ → Type 0) (number : ℕ) (text : List ℕ) : Type 0 where
+  pub guard : List ℕ
+  pub shown : ∥ guards guard ∥₁
+  pub rest : List ℕ
+  pub leads : IsRest rest
+  pub spelled : text ≡ guard ++ (way_to number ++ rest)
+
+-- A text that leads to one name, for calls that follow no link which stands at the last name: what is before it has to be safe.
+abbrev pub IsReached : (guards : List ℕ → Type 0) → (number : ℕ) → (text : List ℕ) → Type 0
+IsReached guards number text = IsPlace number text ⊎ IsBelow guards number text
+
 -- Nobody but that user, who owns it, may change the names in the folder: neither its group nor others may write (18 is 0o022).
 pub record IsPrivate (user : ℕ) (stat : Stat) : Type 0 where
   pub owned : stat.details.uid ≡ user
@@ -36,4 +49,4 @@ pub record WasPrivate (did : Done → Type 0) (user stamp : ℕ) : Type 0 where
 
 -- A text that leads to that one name and to nothing else: behind a guard, or in a folder in which nobody else can put a link.
 abbrev pub IsSafe : (guards : List ℕ → Type 0) → (did : Done → Type 0) → (user number stamp : ℕ) → (text : List ℕ) → Type 0
-IsSafe guards did user number stamp text = IsGuarded guards number text ⊎ (IsPlace number text × ∥ WasPrivate did user stamp ∥₁)
+IsSafe guards did user number stamp text = IsGuarded guards number text ⊎ (IsBelow guards number text ⊎ (IsPlace number text × ∥ WasPrivate did user stamp ∥₁))

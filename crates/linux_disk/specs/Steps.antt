@@ -4,8 +4,10 @@ use Rattle.disk.specs.declared.stat.Access.{Access}
 use Rattle.disk.specs.declared.stat.Change.{Change}
 use Rattle.disk.specs.declared.stat.Change.TheVariants.{Permissions, Owner, Times}
 use Rattle.disk.specs.declared.stat.Stat.{Stat}
-use Rattle.linux_disk.specs.Calls.{Done, Looked, OpenedFile, Set, SetAt}
+use Rattle.linux_disk.specs.Below.{WasLooked}
+use Rattle.linux_disk.specs.Calls.{Done, OpenedFile, Set, SetAt}
 use Rattle.linux_disk.specs.Places.{way_to}
+use Rattle.linux_disk.specs.Ways.{way_in}
 
 -- the text leads to that name in the folder that is open under the number, maybe behind a guard
 pub record Leads (number : ℕ) (name text : List ℕ) : Type 0 where
@@ -24,6 +26,11 @@ pub record WasSetAt (did : Done → Type 0) (number : ℕ) (name : List ℕ) (ch
   pub leads : Leads number name text
   pub done : did (SetAt text change)
 
+-- that was set of what is open, or of the folder to which the way leads
+abbrev pub WasSet : (did : Done → Type 0) → (stamp number : ℕ) → (below : Option (List ℕ)) → (change : Change) → Type 0
+WasSet did stamp number None change = did (Set stamp change)
+WasSet did stamp number (Some way) change = WasSetAt did number way change
+
 -- nothing is to be set
 abbrev pub IsNothing : Change → Type 0
 IsNothing (Permissions bits) = ⊥
@@ -41,15 +48,15 @@ HasBits did mask stamp None = Unit {0}
 HasBits did mask stamp (Some wanted) = (bit_and wanted mask ≡ 0) ⊎ did (Set stamp (Permissions wanted))
 
 -- those were set of the folder with that name, beside the ones that it had
-pub record WasCompleted (did : Done → Type 0) (dir number : ℕ) (name : List ℕ) (wanted : ℕ) : Type 0 where
+pub record WasCompleted (did : Done → Type 0) (guards : List ℕ → Type 0) (dir number : ℕ) (below : Option (List ℕ)) (name : List ℕ) (wanted : ℕ) : Type 0 where
   pub stat : Stat
-  pub seen : did (Looked dir name stat)
-  pub set : WasSetAt did number name (Permissions (bit_or stat.details.permissions wanted))
+  pub seen : WasLooked did guards dir number below name stat
+  pub set : WasSetAt did number (way_in below ++ name) (Permissions (bit_or stat.details.permissions wanted))
 
 -- So has a new folder.
-abbrev pub HasBitsAt : (did : Done → Type 0) → (mask dir number : ℕ) → (name : List ℕ) → Option ℕ → Type 0
-HasBitsAt did mask dir number name None = Unit {0}
-HasBitsAt did mask dir number name (Some wanted) = (bit_and wanted mask ≡ 0) ⊎ WasCompleted did dir number name wanted
+abbrev pub HasBitsAt : (did : Done → Type 0) → (guards : List ℕ → Type 0) → (mask dir number : ℕ) → (below : Option (List ℕ)) → (name : List ℕ) → Option ℕ → Type 0
+HasBitsAt did guards mask dir number below name None = Unit {0}
+HasBitsAt did guards mask dir number below name (Some wanted) = (bit_and wanted mask ≡ 0) ⊎ WasCompleted did guards dir number below name wanted
 
 -- no file of the system has a byte there
 pub record ReadsNone (offset n : ℕ) : Type 0 where

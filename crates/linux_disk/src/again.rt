@@ -3,8 +3,8 @@
 
 ghost use Rattle.std.specs.Prelude.{◌<◌, ◌≤◌, ◌^◌, IfOk, OnOk, length, take};
 ghost use Rattle.disk.specs.Names.{IsLawfulName};
-ghost use Rattle.linux_disk.specs.Calls.{OpenedAgain, OpenedDir, OpenedFile, Read, Wrote, SetLen, Synced, Set, SetAt};
-ghost use Rattle.linux_disk.specs.Places.{IsSafe};
+ghost use Rattle.linux_disk.specs.Calls.{OpenedAgain, OpenedDir, OpenedDirAt, OpenedFile, Read, Wrote, SetLen, Synced, Set, SetAt};
+ghost use Rattle.linux_disk.specs.Places.{IsBelow, IsSafe};
 
 use crate::calls::SystemCalls;
 use crate::page::Page;
@@ -40,6 +40,21 @@ pub fn open_dir<C: SystemCalls>(calls: &C, dir: &C::Fd, name: &[u8]) -> Result<C
         }
     }
     calls.open_dir(dir, name)
+}
+
+/// `openat`, of a folder below it.
+pub fn open_dir_at<C: SystemCalls>(calls: &C, dir: &C::Fd, path: &Page) -> Result<C::Fd, DiskError>
+    requires entered { ∥ C.entered ∥₁ }
+    requires below { IsBelow C.guards (C.number dir.now) path.now }
+    ensures { IfOk result (λ fd. C.did (OpenedDirAt path.now (C.stamp fd))) }
+{
+    for _try in 0..u64::MAX {
+        let told = calls.open_dir_at(dir, path);
+        if !was_interrupted(&told) {
+            return told;
+        }
+    }
+    calls.open_dir_at(dir, path)
 }
 
 /// `open`.

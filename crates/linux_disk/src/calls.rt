@@ -2,14 +2,14 @@
 
 ghost use Rattle.std.specs.Prelude.{ℕ, List, [], ◌≡◌, ◌<◌, ◌≤◌, ◌^◌, ◌++◌, IsTrue, IfOk, OnOk, codes, length, take};
 ghost use Rattle.disk.specs.Names.{IsLawfulName};
-ghost use Rattle.linux_disk.specs.Calls.{Done, Looked, Inspected, OpenedAgain, OpenedDir, OpenedFile, Read, Wrote, SetLen, Synced, Set, SetAt, MadeFile, MadeDir, RemovedFile, RemovedDir, Renamed};
-ghost use Rattle.linux_disk.specs.Places.{IsPlace, IsSafe, way_to};
+ghost use Rattle.linux_disk.specs.Calls.{Done, Looked, LookedAt, Inspected, OpenedAgain, OpenedDir, OpenedDirAt, OpenedFile, Read, Wrote, SetLen, Synced, Set, SetAt, MadeFile, MadeDir, RemovedFile, RemovedFileAt, RemovedDir, RemovedDirAt, Renamed};
+ghost use Rattle.linux_disk.specs.Places.{IsBelow, IsReached, IsSafe, way_to};
 
 use crate::page::Page;
 use disk::{Access, Change, DiskError, Stat};
 use std::alloc::AllocError;
 
-/// A system. What is handed to it is one lawful name below a folder that is open, and nothing else. Each call is made once: one that a signal
+/// A system. What is handed to it is one lawful name below a folder that is open, or behind a guard some, and nothing else. Each call is made once: one that a signal
 /// ended (EINTR) has failed.
 pub trait SystemCalls {
     /// A file or folder that is open for as long as the value is there.
@@ -90,10 +90,22 @@ pub trait SystemCalls {
         requires { IsLawfulName name.now }
         ensures { IfOk result (λ fd. did (OpenedDir (stamp dir.now) name.now (stamp fd))) };
 
+    /// Opens a folder below it, and no link.
+    fn open_dir_at(&self, dir: &Self::Fd, path: &Page) -> Result<Self::Fd, DiskError>
+        requires entered { ∥ entered ∥₁ }
+        requires below { IsBelow guards (number dir.now) path.now }
+        ensures { IfOk result (λ fd. did (OpenedDirAt path.now (stamp fd))) };
+
     /// What stands at the name, a link itself.
     fn look(&self, dir: &Self::Fd, name: &Page) -> Result<Stat, DiskError>
         requires { IsLawfulName name.now }
         ensures { IfOk result (λ stat. did (Looked (stamp dir.now) name.now stat)) };
+
+    /// What stands there below it, a link itself.
+    fn look_at(&self, dir: &Self::Fd, path: &Page) -> Result<Stat, DiskError>
+        requires entered { ∥ entered ∥₁ }
+        requires below { IsBelow guards (number dir.now) path.now }
+        ensures { IfOk result (λ stat. did (LookedAt path.now stat)) };
 
     /// What is open. The page has no text.
     fn inspect(&self, fd: &Self::Fd, none: &Page) -> Result<Stat, DiskError>
@@ -114,13 +126,13 @@ pub trait SystemCalls {
         permissions: u32,
     ) -> Result<Self::Fd, DiskError>
         requires entered { ∥ entered ∥₁ }
-        requires place { IsPlace (number dir.now) path.now }
+        requires reached { IsReached guards (number dir.now) path.now }
         ensures { IfOk result (λ fd. did (MadeFile path.now permissions (stamp fd))) };
 
     /// Makes an empty folder where nothing stands. The process's mask takes some of the bits.
     fn make_dir(&self, dir: &Self::Fd, path: &Page, permissions: u32) -> Result<(), DiskError>
         requires entered { ∥ entered ∥₁ }
-        requires place { IsPlace (number dir.now) path.now }
+        requires reached { IsReached guards (number dir.now) path.now }
         ensures { OnOk result (did (MadeDir path.now permissions)) };
 
     /// Removes what is no folder.
@@ -128,10 +140,22 @@ pub trait SystemCalls {
         requires { IsLawfulName name.now }
         ensures { OnOk result (did (RemovedFile (stamp dir.now) name.now)) };
 
+    /// Removes what is no folder, below it.
+    fn remove_file_at(&self, dir: &Self::Fd, path: &Page) -> Result<(), DiskError>
+        requires entered { ∥ entered ∥₁ }
+        requires below { IsBelow guards (number dir.now) path.now }
+        ensures { OnOk result (did (RemovedFileAt path.now)) };
+
     /// Removes an empty folder.
     fn remove_dir(&self, dir: &Self::Fd, name: &[u8]) -> Result<(), DiskError>
         requires { IsLawfulName name.now }
         ensures { OnOk result (did (RemovedDir (stamp dir.now) name.now)) };
+
+    /// Removes an empty folder, below it.
+    fn remove_dir_at(&self, dir: &Self::Fd, path: &Page) -> Result<(), DiskError>
+        requires entered { ∥ entered ∥₁ }
+        requires below { IsBelow guards (number dir.now) path.now }
+        ensures { OnOk result (did (RemovedDirAt path.now)) };
 
     /// Renames, and replaces what stands there.
     fn rename(
@@ -142,8 +166,8 @@ pub trait SystemCalls {
         to: &Page,
     ) -> Result<(), DiskError>
         requires entered { ∥ entered ∥₁ }
-        requires from { IsPlace (number from_dir.now) from.now }
-        requires to { IsPlace (number to_dir.now) to.now }
+        requires from { IsReached guards (number from_dir.now) from.now }
+        requires to { IsReached guards (number to_dir.now) to.now }
         ensures { OnOk result (did (Renamed from.now to.now)) };
 
     /// Reads from the offset on, to the buffer's start: how many bytes.

@@ -1,11 +1,12 @@
 //! What is open.
 
-ghost use Rattle.std.specs.Prelude.{◌≡◌, IsTrue};
+ghost use Rattle.std.specs.Prelude.{◌≡◌, IsTrue, None, Some};
 ghost use Rattle.linux_disk.specs.Held.{held_value};
 ghost use Rattle.linux_disk.specs.Places.{WasPrivate};
 
 use crate::calls::SystemCalls;
 use crate::held::Held;
+use crate::way::Way;
 use disk::FileId;
 use std::cell::Cell;
 use std::marker::PhantomData;
@@ -30,6 +31,8 @@ pub(crate) struct Seen<C: SystemCalls> {
 #[derive(Drop)]
 pub struct Handle<C: SystemCalls> {
     pub(crate) held: Held<C::Fd>,
+    /// The way to a folder that may not be read, from the nearest one above that may: that one is open then.
+    pub(crate) below: Option<Way>,
     pub(crate) is_folder: bool,
     pub(crate) seen: Cell<Option<Seen<C>>>,
 }
@@ -37,10 +40,12 @@ pub struct Handle<C: SystemCalls> {
 impl<C: SystemCalls> Handle<C> {
     /// A file.
     pub(crate) fn file(held: Held<C::Fd>) -> Handle<C>
-        ensures { result.held ≡ held }
+        ensures held { result.held ≡ held }
+        ensures open { result.below ≡ None }
     {
         Handle {
             held,
+            below: None,
             is_folder: false,
             seen: Cell::new(None),
         }
@@ -48,10 +53,25 @@ impl<C: SystemCalls> Handle<C> {
 
     /// A folder of which nothing was seen yet.
     pub(crate) fn folder(fd: C::Fd) -> Handle<C>
-        ensures { held_value result.held ≡ fd }
+        ensures held { held_value result.held ≡ fd }
+        ensures open { result.below ≡ None }
     {
         Handle {
             held: Held::Own(fd),
+            below: None,
+            is_folder: true,
+            seen: Cell::new(None),
+        }
+    }
+
+    /// The folder to which the way leads from the one that is open.
+    pub(crate) fn entered(fd: C::Fd, way: Way) -> Handle<C>
+        ensures held { held_value result.held ≡ fd }
+        ensures below { result.below ≡ Some way }
+    {
+        Handle {
+            held: Held::Own(fd),
+            below: Some(way),
             is_folder: true,
             seen: Cell::new(None),
         }

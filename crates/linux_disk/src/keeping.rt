@@ -2,10 +2,10 @@
 
 ghost use Rattle.std.specs.Prelude.{◌≡◌, ◌++◌, false, IfOk, OnOk};
 ghost use Rattle.disk.specs.Names.{IsLawfulName};
-ghost use Rattle.linux_disk.specs.Calls.{MadeFile, RemovedFile, Renamed};
+ghost use Rattle.linux_disk.specs.Below.{Reaches, WasMadeFile, WasRemovedFile, WasRenamed};
 ghost use Rattle.linux_disk.specs.Held.{held_value};
-ghost use Rattle.linux_disk.specs.Places.{way_to};
 ghost use Rattle.linux_disk.specs.Steps.{HasBits, WasOpened, bits_of};
+ghost use Rattle.linux_disk.specs.Ways.{way_in};
 
 use crate::calls::SystemCalls;
 use crate::files::KeptFile;
@@ -34,7 +34,7 @@ impl<C: SystemCalls + Drop, S: FileStore<Fd = C::Fd> + Drop> Linux<C, S> {
         access: Access,
     ) -> Result<Handle<C>, DiskError>
         requires { IsLawfulName name.now }
-        ensures { S.keeps self.now.store ≡ false → IfOk result (λ file. WasOpened C.did (C.number (held_value dir.now.held)) name.now access (C.stamp (held_value file.held))) }
+        ensures { S.keeps self.now.store ≡ false → IfOk result (λ file. WasOpened C.did (C.number (held_value dir.now.held)) (way_in dir.now.below ++ name.now) access (C.stamp (held_value file.held))) }
     {
         if self.store.keeps() {
             return self.open_kept(page, dir, name, access);
@@ -89,6 +89,27 @@ impl<C: SystemCalls + Drop, S: FileStore<Fd = C::Fd> + Drop> Linux<C, S> {
         Ok(Handle::file(Held::Shared(file)))
     }
 
+    /// The file that is kept open under the name.
+    pub(crate) fn find_kept(
+        &self,
+        page: &mut Page,
+        dir: &Handle<C>,
+        name: &Name,
+        access: Access,
+    ) -> Option<Handle<C>>
+        requires { IsLawfulName name.now }
+    {
+        let query = Query::new(self.id_of(page, dir).ok()?, name);
+        let (found, _moves) = self.store.find(query, access);
+        let kept = found?;
+        if self.is_still_there(page, dir, query, &kept) {
+            let KeptFile { file, .. } = kept;
+            Some(Handle::file(Held::Shared(file)))
+        } else {
+            None
+        }
+    }
+
     /// Whether the file that is kept stands under its name: as it was seen within a second, or by a look. One that does not is not kept any
     /// more.
     fn is_still_there(
@@ -138,7 +159,7 @@ impl<C: SystemCalls + Drop, S: FileStore<Fd = C::Fd> + Drop> Linux<C, S> {
         permissions: Option<u32>,
     ) -> Result<Handle<C>, DiskError>
         requires { IsLawfulName name.now }
-        ensures made { IfOk result (λ file. C.did (MadeFile (way_to (C.number (held_value dir.now.held)) ++ name.now) (bits_of 438 permissions) (C.stamp (held_value file.held)))) }
+        ensures made { IfOk result (λ file. WasMadeFile C.did C.guards (C.number (held_value dir.now.held)) dir.now.below name.now (bits_of 438 permissions) (C.stamp (held_value file.held))) }
         ensures bits { IfOk result (λ file. HasBits C.did (C.mask self.now.calls) (C.stamp (held_value file.held)) permissions) }
     {
         if !self.store.keeps() {
@@ -154,7 +175,7 @@ impl<C: SystemCalls + Drop, S: FileStore<Fd = C::Fd> + Drop> Linux<C, S> {
     /// Removes what is no folder, which is not kept open any more.
     pub(crate) fn remove_file_at(&self, dir: &Handle<C>, name: &Name) -> Result<(), DiskError>
         requires { IsLawfulName name.now }
-        ensures { OnOk result (C.did (RemovedFile (C.stamp (held_value dir.now.held)) name.now)) }
+        ensures { OnOk result (WasRemovedFile C.did C.guards (C.stamp (held_value dir.now.held)) (C.number (held_value dir.now.held)) dir.now.below name.now) }
     {
         if !self.store.keeps() {
             return self.unlink(dir, name);
@@ -178,7 +199,7 @@ impl<C: SystemCalls + Drop, S: FileStore<Fd = C::Fd> + Drop> Linux<C, S> {
     ) -> Result<(), DiskError>
         requires from { IsLawfulName from.now }
         requires to { IsLawfulName to.now }
-        ensures { OnOk result (C.did (Renamed (way_to (C.number (held_value from_dir.now.held)) ++ from.now) (way_to (C.number (held_value to_dir.now.held)) ++ to.now))) }
+        ensures { OnOk result (WasRenamed C.did (Reaches C.guards (C.number (held_value from_dir.now.held)) from_dir.now.below from.now) (Reaches C.guards (C.number (held_value to_dir.now.held)) to_dir.now.below to.now)) }
     {
         if !self.store.keeps() {
             return self.move_name(pages, from_dir, from, to_dir, to);

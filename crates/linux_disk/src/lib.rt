@@ -2,6 +2,7 @@
 #![tactic(auto)]
 
 mod again;
+mod below;
 mod calls;
 mod changes;
 mod errors;
@@ -29,15 +30,17 @@ mod start_error;
 mod stat;
 mod store;
 mod unfilled;
+mod way;
 
 pub use calls::SystemCalls;
 pub use files::KeptFile;
 pub use handle::Handle;
 pub use keys::Query;
 pub use libc_calls::LibC;
-pub use limits::descriptor_limit;
+pub use limits::room_for_open;
 pub use linux::Linux;
 pub use open_fd::{OpenFd, Rewound};
 pub use page::Page;
 pub use start_error::StartError;
 pub use store::{FileStore, NoFiles, SharedFiles};
+pub use way::Way;

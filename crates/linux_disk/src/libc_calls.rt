@@ -16,7 +16,7 @@ use disk::{Access, Change, DiskError, Stat};
 use errno::{EACCES, EBADF, EINVAL, EIO};
 use libc::types::timespec;
 use std::alloc::{AllocError, Global};
-use std::os::fd::{AsRawFd, OwnedFd};
+use std::os::fd::AsRawFd;
 use std::sync::Arc;
 use std::sync::atomic::{AtomicU64, Ordering};
 
@@ -145,12 +145,20 @@ impl SystemCalls for LibC {
         self.opened(os::open_dir_at(dir.fd.as_raw_fd(), name))
     }
 
+    fn open_dir_at(&self, _dir: &OpenFd, path: &Page) -> Result<OpenFd, DiskError> {
+        self.opened(os::open_dir_at(libc::AT_FDCWD, path.text()))
+    }
+
     fn look(&self, dir: &OpenFd, name: &Page) -> Result<Stat, DiskError> {
-        look(&dir.fd, name, libc::AT_SYMLINK_NOFOLLOW)
+        look(dir.fd.as_raw_fd(), name, libc::AT_SYMLINK_NOFOLLOW)
+    }
+
+    fn look_at(&self, _dir: &OpenFd, path: &Page) -> Result<Stat, DiskError> {
+        look(libc::AT_FDCWD, path, libc::AT_SYMLINK_NOFOLLOW)
     }
 
     fn inspect(&self, fd: &OpenFd, none: &Page) -> Result<Stat, DiskError> {
-        look(&fd.fd, none, libc::AT_EMPTY_PATH)
+        look(fd.fd.as_raw_fd(), none, libc::AT_EMPTY_PATH)
     }
 
     fn open_file(&self, _dir: &OpenFd, path: &Page, access: Access) -> Result<OpenFd, DiskError> {
@@ -172,6 +180,14 @@ impl SystemCalls for LibC {
 
     fn remove_file(&self, dir: &OpenFd, name: &[u8]) -> Result<(), DiskError> {
         expect_done(os::unlink_at(dir.fd.as_raw_fd(), name))
+    }
+
+    fn remove_file_at(&self, _dir: &OpenFd, path: &Page) -> Result<(), DiskError> {
+        expect_done(unsafe { libc::unlink(path.c_string()) })
+    }
+
+    fn remove_dir_at(&self, _dir: &OpenFd, path: &Page) -> Result<(), DiskError> {
+        expect_done(unsafe { libc::rmdir(path.c_string()) })
     }
 
     fn remove_dir(&self, dir: &OpenFd, name: &[u8]) -> Result<(), DiskError> {
@@ -263,11 +279,11 @@ impl SystemCalls for LibC {
 }
 
 /// One `statx`.
-fn look(fd: &OwnedFd, name: &Page, flags: i32) -> Result<Stat, DiskError> {
+fn look(dir: i32, name: &Page, flags: i32) -> Result<Stat, DiskError> {
     let mut told = new_statx();
     let ret = unsafe {
         libc::statx(
-            fd.as_raw_fd(),
+            dir,
             name.c_string(),
             flags,
             libc::STATX_BASIC_STATS,

@@ -18,7 +18,9 @@ use std::sync::atomic::{AtomicU64, Ordering};
 /// What those who serve the same folder tell one another.
 #[derive(Drop)]
 pub(crate) struct Counts {
-    /// How often a name was removed or moved.
+    /// How often a folder was removed or moved.
+    moves: AtomicU64,
+    /// How often anything changed.
     changes: AtomicU64,
     /// How often the rights of a folder were set.
     rights: AtomicU64,
@@ -27,9 +29,14 @@ pub(crate) struct Counts {
 impl Counts {
     fn new() -> Counts {
         Counts {
+            moves: AtomicU64::new(0),
             changes: AtomicU64::new(0),
             rights: AtomicU64::new(0),
         }
+    }
+
+    pub(crate) fn moves(&self) -> u64 {
+        self.moves.load(Ordering::SeqCst)
     }
 
     pub(crate) fn changes(&self) -> u64 {
@@ -40,7 +47,12 @@ impl Counts {
         self.rights.load(Ordering::SeqCst)
     }
 
-    /// A name was removed or moved, or may have been.
+    /// A folder was removed or moved, or may have been.
+    pub(crate) fn note_move(&self) {
+        self.moves.fetch_add(1, Ordering::SeqCst);
+    }
+
+    /// Something changed, or may have.
     pub(crate) fn note_change(&self) {
         self.changes.fetch_add(1, Ordering::SeqCst);
     }

@@ -3,18 +3,18 @@
 ghost use Rattle.std.specs.Prelude.{◌≡◌, ◌++◌, IfOk, OnOk};
 ghost use Rattle.disk.specs.Names.{IsLawfulName};
 ghost use Rattle.linux_disk.specs.Held.{held_value};
-ghost use Rattle.linux_disk.specs.Calls.{MadeFile, MadeDir, RemovedFile, RemovedDir, Renamed};
+ghost use Rattle.linux_disk.specs.Below.{Reaches, WasMadeDir, WasMadeFile, WasRemovedDir, WasRemovedDirAt, WasRemovedFile, WasRemovedFileAt, WasRenamed};
 ghost use Rattle.linux_disk.specs.Places.{way_to};
 ghost use Rattle.linux_disk.specs.Steps.{HasBits, HasBitsAt, WasCompleted, bits_of};
 
 use crate::again;
 use crate::calls::SystemCalls;
 use crate::handle::Handle;
-use crate::linux::Linux;
+use crate::linux::{Linux, page_of};
 use crate::page::Page;
-use crate::places::place;
 use crate::stat::PERMISSION_BITS;
 use crate::store::FileStore;
+use crate::way::Way;
 use backing::Kind;
 use disk::{Change, DiskError};
 use errno::EIO;
@@ -60,11 +60,10 @@ impl<C: SystemCalls + Drop, S: FileStore<Fd = C::Fd> + Drop> Linux<C, S> {
         permissions: Option<u32>,
     ) -> Result<C::Fd, DiskError>
         requires { IsLawfulName name.now }
-        ensures made { IfOk result (λ fd. C.did (MadeFile (way_to (C.number (held_value dir.now.held)) ++ name.now) (bits_of 438 permissions) (C.stamp fd))) }
+        ensures made { IfOk result (λ fd. WasMadeFile C.did C.guards (C.number (held_value dir.now.held)) dir.now.below name.now (bits_of 438 permissions) (C.stamp fd)) }
         ensures bits { IfOk result (λ fd. HasBits C.did (C.mask self.now.calls) (C.stamp fd) permissions) }
     {
-        let number = self.calls.number(dir.fd());
-        place(page, b"", number, name.as_str().as_bytes())?;
+        self.reach(page, dir, name)?;
         let bits = bits_of(FILE_BITS, permissions);
         let fd = self.calls.make_file(dir.fd(), page, bits)?;
         self.complete(&fd, permissions)?;
@@ -93,11 +92,10 @@ impl<C: SystemCalls + Drop, S: FileStore<Fd = C::Fd> + Drop> Linux<C, S> {
         permissions: Option<u32>,
     ) -> Result<(), DiskError>
         requires { IsLawfulName name.now }
-        ensures made { OnOk result (C.did (MadeDir (way_to (C.number (held_value dir.now.held)) ++ name.now) (bits_of 511 permissions))) }
-        ensures bits { OnOk result (HasBitsAt C.did (C.mask self.now.calls) (C.stamp (held_value dir.now.held)) (C.number (held_value dir.now.held)) name.now permissions) }
+        ensures made { OnOk result (WasMadeDir C.did C.guards (C.number (held_value dir.now.held)) dir.now.below name.now (bits_of 511 permissions)) }
+        ensures bits { OnOk result (HasBitsAt C.did C.guards (C.mask self.now.calls) (C.stamp (held_value dir.now.held)) (C.number (held_value dir.now.held)) dir.now.below name.now permissions) }
     {
-        let number = self.calls.number(dir.fd());
-        place(page, b"", number, name.as_str().as_bytes())?;
+        self.reach(page, dir, name)?;
         let bits = bits_of(FOLDER_BITS, permissions);
         self.calls.make_dir(dir.fd(), page, bits)?;
         match permissions {
@@ -121,7 +119,7 @@ impl<C: SystemCalls + Drop, S: FileStore<Fd = C::Fd> + Drop> Linux<C, S> {
         wanted: u32,
     ) -> Result<(), DiskError>
         requires { IsLawfulName name.now }
-        ensures { OnOk result (WasCompleted C.did (C.stamp (held_value dir.now.held)) (C.number (held_value dir.now.held)) name.now wanted) }
+        ensures { OnOk result (WasCompleted C.did C.guards (C.stamp (held_value dir.now.held)) (C.number (held_value dir.now.held)) dir.now.below name.now wanted) }
     {
         let stat = self.look_at(page, dir, name)?;
         match stat.kind {
@@ -134,28 +132,75 @@ impl<C: SystemCalls + Drop, S: FileStore<Fd = C::Fd> + Drop> Linux<C, S> {
         }
     }
 
-    /// Removes what is no folder: `unlinkat`.
+    /// Removes what is no folder: `unlinkat`, or `unlink` where the folder may not be read.
     pub(crate) fn unlink(&self, dir: &Handle<C>, name: &Name) -> Result<(), DiskError>
         requires { IsLawfulName name.now }
-        ensures { OnOk result (C.did (RemovedFile (C.stamp (held_value dir.now.held)) name.now)) }
+        ensures { OnOk result (WasRemovedFile C.did C.guards (C.stamp (held_value dir.now.held)) (C.number (held_value dir.now.held)) dir.now.below name.now) }
     {
-        let told = self.calls.remove_file(dir.fd(), name.as_str().as_bytes());
-        if may_be_done(&told) {
-            self.counts.note_change();
+        match &dir.below {
+            None => self.calls.remove_file(dir.fd(), name.as_str().as_bytes()),
+            Some(way) => {
+                let mut page = page_of(self.alloc, &self.path)?;
+                let told = self.unlink_below(&mut page, dir.fd(), way, name);
+                self.path.keep(page);
+                told
+            }
         }
-        told
     }
 
-    /// Removes an empty folder: `unlinkat`.
+    fn unlink_below(
+        &self,
+        page: &mut Page,
+        above: &C::Fd,
+        way: &Way,
+        name: &Name,
+    ) -> Result<(), DiskError>
+        requires { IsLawfulName name.now }
+        ensures { OnOk result (WasRemovedFileAt C.did C.guards (way_to (C.number above.now) ++ (way.now ++ name.now))) }
+    {
+        self.reach_below(page, above, way, name)?;
+        self.calls.remove_file_at(above, page)
+    }
+
+    /// Removes an empty folder: `unlinkat`, or `rmdir` where the folder that it stands in may not be read.
     pub(crate) fn remove_dir_at(&self, dir: &Handle<C>, name: &Name) -> Result<(), DiskError>
         requires { IsLawfulName name.now }
-        ensures { OnOk result (C.did (RemovedDir (C.stamp (held_value dir.now.held)) name.now)) }
+        ensures { OnOk result (WasRemovedDir C.did C.guards (C.stamp (held_value dir.now.held)) (C.number (held_value dir.now.held)) dir.now.below name.now) }
     {
-        let told = self.calls.remove_dir(dir.fd(), name.as_str().as_bytes());
+        let told = self.unlink_dir(dir, name);
         if may_be_done(&told) {
-            self.counts.note_change();
+            self.counts.note_move();
         }
         with_names(told)
+    }
+
+    fn unlink_dir(&self, dir: &Handle<C>, name: &Name) -> Result<(), DiskError>
+        requires { IsLawfulName name.now }
+        ensures { OnOk result (WasRemovedDir C.did C.guards (C.stamp (held_value dir.now.held)) (C.number (held_value dir.now.held)) dir.now.below name.now) }
+    {
+        match &dir.below {
+            None => self.calls.remove_dir(dir.fd(), name.as_str().as_bytes()),
+            Some(way) => {
+                let mut page = page_of(self.alloc, &self.path)?;
+                let told = self.unlink_dir_below(&mut page, dir.fd(), way, name);
+                self.path.keep(page);
+                told
+            }
+        }
+    }
+
+    fn unlink_dir_below(
+        &self,
+        page: &mut Page,
+        above: &C::Fd,
+        way: &Way,
+        name: &Name,
+    ) -> Result<(), DiskError>
+        requires { IsLawfulName name.now }
+        ensures { OnOk result (WasRemovedDirAt C.did C.guards (way_to (C.number above.now) ++ (way.now ++ name.now))) }
+    {
+        self.reach_below(page, above, way, name)?;
+        self.calls.remove_dir_at(above, page)
     }
 
     /// Gives what stands at the name another one: `rename`.
@@ -169,17 +214,12 @@ impl<C: SystemCalls + Drop, S: FileStore<Fd = C::Fd> + Drop> Linux<C, S> {
     ) -> Result<(), DiskError>
         requires from { IsLawfulName from.now }
         requires to { IsLawfulName to.now }
-        ensures { OnOk result (C.did (Renamed (way_to (C.number (held_value from_dir.now.held)) ++ from.now) (way_to (C.number (held_value to_dir.now.held)) ++ to.now))) }
+        ensures { OnOk result (WasRenamed C.did (Reaches C.guards (C.number (held_value from_dir.now.held)) from_dir.now.below from.now) (Reaches C.guards (C.number (held_value to_dir.now.held)) to_dir.now.below to.now)) }
     {
         let (old, new) = pages;
-        let number = self.calls.number(from_dir.fd());
-        place(old, b"", number, from.as_str().as_bytes())?;
-        let number = self.calls.number(to_dir.fd());
-        place(new, b"", number, to.as_str().as_bytes())?;
+        self.reach(old, from_dir, from)?;
+        self.reach(new, to_dir, to)?;
         let told = self.calls.rename(from_dir.fd(), old, to_dir.fd(), new);
-        if may_be_done(&told) {
-            self.counts.note_change();
-        }
         with_names(told)
     }
 }

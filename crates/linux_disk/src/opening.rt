@@ -1,10 +1,11 @@
 //! Calls that open or set by a text.
 
-ghost use Rattle.std.specs.Prelude.{◌≡◌, ◌⊎◌, IsTrue, IfOk, OnOk};
+ghost use Rattle.std.specs.Prelude.{◌≡◌, ◌⊎◌, ◌++◌, IsTrue, IfOk, OnOk};
 ghost use Rattle.disk.specs.Names.{IsLawfulName};
 ghost use Rattle.linux_disk.specs.Held.{held_value};
-ghost use Rattle.linux_disk.specs.Calls.{Looked, Set};
-ghost use Rattle.linux_disk.specs.Steps.{IsNothing, WasOpened, WasSetAt};
+ghost use Rattle.linux_disk.specs.Below.{WasLooked};
+ghost use Rattle.linux_disk.specs.Steps.{IsNothing, WasOpened, WasSet, WasSetAt};
+ghost use Rattle.linux_disk.specs.Ways.{way_in};
 
 use crate::again;
 use crate::calls::SystemCalls;
@@ -44,10 +45,18 @@ impl<C: SystemCalls + Drop, S: FileStore<Fd = C::Fd> + Drop> Linux<C, S> {
         name: &Name,
     ) -> Result<Stat, DiskError>
         requires { IsLawfulName name.now }
-        ensures { IfOk result (λ stat. C.did (Looked (C.stamp (held_value dir.now.held)) name.now stat)) }
+        ensures { IfOk result (λ stat. WasLooked C.did C.guards (C.stamp (held_value dir.now.held)) (C.number (held_value dir.now.held)) dir.now.below name.now stat) }
     {
-        name_alone(page, name.as_str().as_bytes())?;
-        self.calls.look(dir.fd(), page)
+        match &dir.below {
+            None => {
+                name_alone(page, name.as_str().as_bytes())?;
+                self.calls.look(dir.fd(), page)
+            }
+            Some(way) => {
+                self.reach_below(page, dir.fd(), way, name)?;
+                self.calls.look_at(dir.fd(), page)
+            }
+        }
     }
 
     /// Opens the file at the name: `open`, and `statx` where the folder has not been seen yet.
@@ -59,24 +68,41 @@ impl<C: SystemCalls + Drop, S: FileStore<Fd = C::Fd> + Drop> Linux<C, S> {
         access: Access,
     ) -> Result<C::Fd, DiskError>
         requires { IsLawfulName name.now }
-        ensures { IfOk result (λ fd. WasOpened C.did (C.number (held_value dir.now.held)) name.now access (C.stamp fd)) }
+        ensures { IfOk result (λ fd. WasOpened C.did (C.number (held_value dir.now.held)) (way_in dir.now.below ++ name.now) access (C.stamp fd)) }
     {
         self.safe_place(page, dir, name)?;
         again::open_file(&self.calls, dir.fd(), page, access)
     }
 
-    /// Sets it of what is open: `fchmod`, `fchown` or `futimens`.
-    pub(crate) fn set_open(&self, handle: &Handle<C>, change: Change) -> Result<(), DiskError>
-        ensures { OnOk result (IsNothing change ⊎ C.did (Set (C.stamp (held_value handle.now.held)) change)) }
+    /// Sets it of what is open: `fchmod`, `fchown` or `futimens`. Of a folder that may not be read: `chmod` or `lchown`.
+    pub(crate) fn set_open(
+        &self,
+        page: &mut Page,
+        handle: &Handle<C>,
+        change: Change,
+    ) -> Result<(), DiskError>
+        ensures { OnOk result (IsNothing change ⊎ WasSet C.did (C.stamp (held_value handle.now.held)) (C.number (held_value handle.now.held)) handle.now.below change) }
     {
         if is_nothing(change) {
             return Ok(());
         }
-        let told = again::set(&self.calls, handle.fd(), change);
+        let told = self.set_once(page, handle, change);
         if handle.is_folder && is_about_rights(change) {
             self.counts.note_rights();
         }
         told
+    }
+
+    fn set_once(&self, page: &mut Page, handle: &Handle<C>, change: Change) -> Result<(), DiskError>
+        ensures { OnOk result (WasSet C.did (C.stamp (held_value handle.now.held)) (C.number (held_value handle.now.held)) handle.now.below change) }
+    {
+        match &handle.below {
+            None => again::set(&self.calls, handle.fd(), change),
+            Some(way) => {
+                self.reach_way(page, handle.fd(), way)?;
+                again::set_at(&self.calls, handle.fd(), page, change)
+            }
+        }
     }
 
     /// Sets it of what stands at the name: `chmod` or `lchown`, and `statx` where the folder has not been seen yet.
@@ -88,7 +114,7 @@ impl<C: SystemCalls + Drop, S: FileStore<Fd = C::Fd> + Drop> Linux<C, S> {
         change: Change,
     ) -> Result<(), DiskError>
         requires { IsLawfulName name.now }
-        ensures { OnOk result (IsNothing change ⊎ WasSetAt C.did (C.number (held_value dir.now.held)) name.now change) }
+        ensures { OnOk result (IsNothing change ⊎ WasSetAt C.did (C.number (held_value dir.now.held)) (way_in dir.now.below ++ name.now) change) }
     {
         if is_nothing(change) {
             return Ok(());

@@ -45,3 +45,38 @@ pub fn place(page: &mut Page, guard: &[u8], number: u32, name: &[u8]) -> Result<
         Err(DiskError::Failed(ENAMETOOLONG))
     }
 }
+
+/// The text becomes the guard, and then the way from the folder that is open under that number.
+pub fn place_way(page: &mut Page, guard: &[u8], number: u32, way: &[u8]) -> Result<(), DiskError>
+    requires guard { All (λ byte. byte ≢ 0) guard.now }
+    requires way { All (λ byte. byte ≢ 0) way.now }
+    ensures { OnOk result (page.new ≡ guard.now ++ (way_to number ++ way.now)) }
+{
+    page.clear();
+    if page.push(guard) && push_number(page, number) && page.push(b"/") && page.push(way) {
+        Ok(())
+    } else {
+        Err(DiskError::Failed(ENAMETOOLONG))
+    }
+}
+
+/// The same, and then one name there.
+pub fn place_below(
+    page: &mut Page,
+    guard: &[u8],
+    number: u32,
+    way: &[u8],
+    name: &[u8],
+) -> Result<(), DiskError>
+    requires guard { All (λ byte. byte ≢ 0) guard.now }
+    requires way { All (λ byte. byte ≢ 0) way.now }
+    requires name { IsLawfulName name.now }
+    ensures { OnOk result (page.new ≡ guard.now ++ (way_to number ++ (way.now ++ name.now))) }
+{
+    place_way(page, guard, number, way)?;
+    if page.push(name) {
+        Ok(())
+    } else {
+        Err(DiskError::Failed(ENAMETOOLONG))
+    }
+}

@@ -1,11 +1,13 @@
 //! Whether somebody else may change the names in a folder.
 
-ghost use Rattle.std.specs.Prelude.{◌≡◌, ◌↔◌, IsTrue, IfOk, OnOk};
+ghost use Rattle.std.specs.Prelude.{◌≡◌, ◌↔◌, ◌++◌, IsTrue, IfOk, OnOk};
 ghost use Rattle.disk.specs.Names.{IsLawfulName};
 ghost use Rattle.linux_disk.specs.Held.{held_value};
+ghost use Rattle.linux_disk.specs.Below.{WasInspected};
 ghost use Rattle.linux_disk.specs.Calls.{Inspected};
 ghost use Rattle.linux_disk.specs.Places.{IsPrivate, IsSafe, WasPrivate};
 ghost use Rattle.linux_disk.specs.Steps.{Leads};
+ghost use Rattle.linux_disk.specs.Ways.{way_in};
 
 use crate::calls::SystemCalls;
 use crate::handle::{Handle, Seen};
@@ -43,12 +45,22 @@ fn seen_of<C: SystemCalls>(calls: &C, dir: &C::Fd, stat: &Stat, rights: u64) -> 
 }
 
 impl<C: SystemCalls + Drop, S: FileStore<Fd = C::Fd> + Drop> Linux<C, S> {
-    /// What is open, which is kept of a folder.
+    /// What is open. It is kept of a folder, but not of one that is reached by its name, where another one may stand the next time.
     pub(crate) fn inspect_open(
         &self,
         page: &mut Page,
         handle: &Handle<C>,
     ) -> Result<Stat, DiskError>
+        ensures { IfOk result (λ stat. WasInspected C.did C.guards (C.stamp (held_value handle.now.held)) (C.number (held_value handle.now.held)) handle.now.below stat) }
+    {
+        match &handle.below {
+            None => self.inspect_itself(page, handle),
+            Some(way) => self.inspect_way(page, handle.fd(), way),
+        }
+    }
+
+    /// What is open itself, which is kept of a folder.
+    fn inspect_itself(&self, page: &mut Page, handle: &Handle<C>) -> Result<Stat, DiskError>
         ensures { IfOk result (λ stat. C.did (Inspected (C.stamp (held_value handle.now.held)) stat)) }
     {
         let rights = self.counts.rights();
@@ -73,7 +85,7 @@ impl<C: SystemCalls + Drop, S: FileStore<Fd = C::Fd> + Drop> Linux<C, S> {
                 return Ok(safe);
             }
         }
-        let stat = self.inspect_open(page, dir)?;
+        let stat = self.inspect_itself(page, dir)?;
         Ok(is_private(&stat, self.calls.user()))
     }
 
@@ -94,6 +106,18 @@ impl<C: SystemCalls + Drop, S: FileStore<Fd = C::Fd> + Drop> Linux<C, S> {
         dir: &Handle<C>,
         name: &Name,
     ) -> Result<(), DiskError>
+        requires { IsLawfulName name.now }
+        ensures safe { OnOk result (IsSafe C.guards C.did (C.user self.now.calls) (C.number (held_value dir.now.held)) (C.stamp (held_value dir.now.held)) page.new) }
+        ensures leads { OnOk result (Leads (C.number (held_value dir.now.held)) (way_in dir.now.below ++ name.now) page.new) }
+    {
+        match &dir.below {
+            None => self.safe_place_in(page, dir, name),
+            Some(way) => self.reach_below(page, dir.fd(), way, name),
+        }
+    }
+
+    /// The same in a folder that is open itself.
+    fn safe_place_in(&self, page: &mut Page, dir: &Handle<C>, name: &Name) -> Result<(), DiskError>
         requires { IsLawfulName name.now }
         ensures safe { OnOk result (IsSafe C.guards C.did (C.user self.now.calls) (C.number (held_value dir.now.held)) (C.stamp (held_value dir.now.held)) page.new) }
         ensures leads { OnOk result (Leads (C.number (held_value dir.now.held)) name.now page.new) }

@@ -1,12 +1,13 @@
 //! A folder of Linux as a system. Which call of Linux's each one is, the function that it calls says.
 
-ghost use Rattle.std.specs.Prelude.{◌≡◌, ◌⊎◌, ◌≤◌, ◌++◌, false, IfOk, OnOk, length, take};
+ghost use Rattle.std.specs.Prelude.{◌≡◌, ◌⊎◌, ◌≤◌, ◌++◌, false, None, IfOk, OnOk, length, take};
 ghost use Rattle.disk.specs.Names.{IsLawfulName};
 ghost use Rattle.linux_disk.specs.Held.{held_value};
-ghost use Rattle.linux_disk.specs.Calls.{Done, Looked, Inspected, OpenedAgain, OpenedDir, Read, Wrote, SetLen, Synced, Set, MadeFile, MadeDir, RemovedFile, RemovedDir, Renamed};
+ghost use Rattle.linux_disk.specs.Below.{EntersDir, Reaches, WasInspected, WasLooked, WasMadeDir, WasMadeFile, WasRemovedDir, WasRemovedFile, WasRenamed};
+ghost use Rattle.linux_disk.specs.Calls.{Done, OpenedAgain, Read, Wrote, SetLen, Synced};
 ghost use Rattle.linux_disk.specs.Listings.{ListsAll};
-ghost use Rattle.linux_disk.specs.Places.{way_to};
-ghost use Rattle.linux_disk.specs.Steps.{HasBits, HasBitsAt, IsNothing, ReadsNone, WasOpened, WasSetAt, bits_of};
+ghost use Rattle.linux_disk.specs.Steps.{HasBits, HasBitsAt, IsNothing, ReadsNone, WasOpened, WasSet, WasSetAt, bits_of};
+ghost use Rattle.linux_disk.specs.Ways.{way_in};
 
 use crate::again;
 use crate::calls::SystemCalls;
@@ -14,7 +15,7 @@ use crate::handle::Handle;
 use crate::linux::{Linux, page_of};
 use crate::store::FileStore;
 use disk::{Access, Change, DiskError, Stat, System};
-use errno::EFBIG;
+use errno::{EACCES, EFBIG};
 use paths::Name;
 use std::alloc::Global;
 
@@ -32,12 +33,33 @@ impl<C: SystemCalls + Drop, S: FileStore<Fd = C::Fd> + Drop> System for Linux<C,
         self.calls.milliseconds()
     }
 
+    fn moves(&self) -> u64 {
+        self.counts.moves()
+    }
+
     fn changes(&self) -> u64 {
         self.counts.changes()
     }
 
+    fn note_move(&self) {
+        self.counts.note_move();
+    }
+
     fn keeps_files(&self) -> bool {
         self.store.keeps()
+    }
+
+    /// No call, or two of `statx` where the file was not seen under its name within a second.
+    fn find_open(&self, dir: &Handle<C>, name: &Name, access: Access) -> Option<Handle<C>>
+        requires { IsLawfulName name.now }
+    {
+        if !self.store.keeps() {
+            return None;
+        }
+        let mut page = page_of(self.alloc, &self.path).ok()?;
+        let found = self.find_kept(&mut page, dir, name, access);
+        self.path.keep(page);
+        found
     }
 
     /// `openat`.
@@ -50,7 +72,7 @@ impl<C: SystemCalls + Drop, S: FileStore<Fd = C::Fd> + Drop> System for Linux<C,
 
     /// `statx`.
     fn inspect(&self, handle: &Handle<C>) -> Result<Stat, DiskError>
-        ensures { IfOk result (λ stat. C.did (Inspected (C.stamp (held_value handle.now.held)) stat)) }
+        ensures { IfOk result (λ stat. WasInspected C.did C.guards (C.stamp (held_value handle.now.held)) (C.number (held_value handle.now.held)) handle.now.below stat) }
     {
         let mut page = page_of(self.alloc, &self.path)?;
         let told = self.inspect_open(&mut page, handle);
@@ -60,7 +82,7 @@ impl<C: SystemCalls + Drop, S: FileStore<Fd = C::Fd> + Drop> System for Linux<C,
 
     fn look(&self, dir: &Handle<C>, name: &Name) -> Result<Stat, DiskError>
         requires { IsLawfulName name.now }
-        ensures { IfOk result (λ stat. C.did (Looked (C.stamp (held_value dir.now.held)) name.now stat)) }
+        ensures { IfOk result (λ stat. WasLooked C.did C.guards (C.stamp (held_value dir.now.held)) (C.number (held_value dir.now.held)) dir.now.below name.now stat) }
     {
         let mut page = page_of(self.alloc, &self.path)?;
         let told = self.look_at(&mut page, dir, name);
@@ -68,13 +90,15 @@ impl<C: SystemCalls + Drop, S: FileStore<Fd = C::Fd> + Drop> System for Linux<C,
         told
     }
 
-    /// `openat`.
+    /// `openat`. A folder that may be entered and not read is entered: `statx`, and `openat` of the one above that is open.
     fn open_dir(&self, dir: &Handle<C>, name: &Name) -> Result<Handle<C>, DiskError>
         requires { IsLawfulName name.now }
-        ensures { IfOk result (λ sub. C.did (OpenedDir (C.stamp (held_value dir.now.held)) name.now (C.stamp (held_value sub.held)))) }
+        ensures { IfOk result (λ sub. EntersDir C.did C.guards (C.stamp (held_value dir.now.held)) (C.number (held_value dir.now.held)) dir.now.below name.now (C.stamp (held_value sub.held)) sub.below) }
     {
-        let fd = again::open_dir(&self.calls, dir.fd(), name.as_str().as_bytes())?;
-        Ok(Handle::folder(fd))
+        let mut page = page_of(self.alloc, &self.path)?;
+        let told = self.open_dir_in(&mut page, dir, name);
+        self.path.keep(page);
+        told
     }
 
     fn open_file(
@@ -84,7 +108,7 @@ impl<C: SystemCalls + Drop, S: FileStore<Fd = C::Fd> + Drop> System for Linux<C,
         access: Access,
     ) -> Result<Handle<C>, DiskError>
         requires { IsLawfulName name.now }
-        ensures { S.keeps self.now.store ≡ false → IfOk result (λ file. WasOpened C.did (C.number (held_value dir.now.held)) name.now access (C.stamp (held_value file.held))) }
+        ensures { S.keeps self.now.store ≡ false → IfOk result (λ file. WasOpened C.did (C.number (held_value dir.now.held)) (way_in dir.now.below ++ name.now) access (C.stamp (held_value file.held))) }
     {
         let mut page = page_of(self.alloc, &self.path)?;
         let told = self.open_at(&mut page, dir, name, access);
@@ -103,33 +127,48 @@ impl<C: SystemCalls + Drop, S: FileStore<Fd = C::Fd> + Drop> System for Linux<C,
         again::read_at(&self.calls, file.fd(), buffer, offset)
     }
 
+    /// A folder that may not be read is EACCES (own).
     fn list(&self, dir: &Handle<C>) -> Result<Vec<Name>, DiskError>
-        ensures { IfOk result (λ names. ListsAll C.begins C.advances (C.stamp (held_value dir.now.held)) names.items) }
+        ensures names { IfOk result (λ names. ListsAll C.begins C.advances (C.stamp (held_value dir.now.held)) names.items) }
+        ensures open { OnOk result (dir.now.below ≡ None) }
     {
+        if dir.below.is_some() {
+            return Err(DiskError::Failed(EACCES));
+        }
         let mut room = self.names_room()?;
         let told = self.list_open(&mut room, dir.fd());
         self.names.keep(room);
         told
     }
 
+    /// `fsync`. A folder that may not be read is EACCES (own).
     fn sync(&self, handle: &Handle<C>) -> Result<(), DiskError>
-        ensures { OnOk result (C.did (Synced (C.stamp (held_value handle.now.held)))) }
+        ensures synced { OnOk result (C.did (Synced (C.stamp (held_value handle.now.held)))) }
+        ensures open { OnOk result (handle.now.below ≡ None) }
     {
+        if handle.below.is_some() {
+            return Err(DiskError::Failed(EACCES));
+        }
         again::sync(&self.calls, handle.fd())
     }
 
     fn set(&self, handle: &Handle<C>, change: Change) -> Result<(), DiskError>
-        ensures { OnOk result (IsNothing change ⊎ C.did (Set (C.stamp (held_value handle.now.held)) change)) }
+        ensures { OnOk result (IsNothing change ⊎ WasSet C.did (C.stamp (held_value handle.now.held)) (C.number (held_value handle.now.held)) handle.now.below change) }
     {
-        self.set_open(handle, change)
+        let mut page = page_of(self.alloc, &self.path)?;
+        let told = self.set_open(&mut page, handle, change);
+        self.counts.note_change();
+        self.path.keep(page);
+        told
     }
 
     fn set_at(&self, dir: &Handle<C>, name: &Name, change: Change) -> Result<(), DiskError>
         requires { IsLawfulName name.now }
-        ensures { OnOk result (IsNothing change ⊎ WasSetAt C.did (C.number (held_value dir.now.held)) name.now change) }
+        ensures { OnOk result (IsNothing change ⊎ WasSetAt C.did (C.number (held_value dir.now.held)) (way_in dir.now.below ++ name.now) change) }
     {
         let mut page = page_of(self.alloc, &self.path)?;
         let told = self.set_named(&mut page, dir, name, change);
+        self.counts.note_change();
         self.path.keep(page);
         told
     }
@@ -142,7 +181,9 @@ impl<C: SystemCalls + Drop, S: FileStore<Fd = C::Fd> + Drop> System for Linux<C,
         if offset >= END {
             return Err(DiskError::Failed(EFBIG));
         }
-        again::write_at(&self.calls, file.fd(), bytes, offset)
+        let told = again::write_at(&self.calls, file.fd(), bytes, offset);
+        self.counts.note_change();
+        told
     }
 
     /// `ftruncate`.
@@ -152,7 +193,9 @@ impl<C: SystemCalls + Drop, S: FileStore<Fd = C::Fd> + Drop> System for Linux<C,
         if size >= END {
             return Err(DiskError::Failed(EFBIG));
         }
-        again::set_len(&self.calls, file.fd(), size)
+        let told = again::set_len(&self.calls, file.fd(), size);
+        self.counts.note_change();
+        told
     }
 
     fn make_file(
@@ -162,11 +205,12 @@ impl<C: SystemCalls + Drop, S: FileStore<Fd = C::Fd> + Drop> System for Linux<C,
         permissions: Option<u32>,
     ) -> Result<Handle<C>, DiskError>
         requires { IsLawfulName name.now }
-        ensures made { IfOk result (λ file. C.did (MadeFile (way_to (C.number (held_value dir.now.held)) ++ name.now) (bits_of 438 permissions) (C.stamp (held_value file.held)))) }
+        ensures made { IfOk result (λ file. WasMadeFile C.did C.guards (C.number (held_value dir.now.held)) dir.now.below name.now (bits_of 438 permissions) (C.stamp (held_value file.held))) }
         ensures bits { IfOk result (λ file. HasBits C.did (C.mask self.old.calls) (C.stamp (held_value file.held)) permissions) }
     {
         let mut page = page_of(self.alloc, &self.path)?;
         let told = self.make_file_at(&mut page, dir, name, permissions);
+        self.counts.note_change();
         self.path.keep(page);
         told
     }
@@ -178,27 +222,32 @@ impl<C: SystemCalls + Drop, S: FileStore<Fd = C::Fd> + Drop> System for Linux<C,
         permissions: Option<u32>,
     ) -> Result<(), DiskError>
         requires { IsLawfulName name.now }
-        ensures made { OnOk result (C.did (MadeDir (way_to (C.number (held_value dir.now.held)) ++ name.now) (bits_of 511 permissions))) }
-        ensures bits { OnOk result (HasBitsAt C.did (C.mask self.old.calls) (C.stamp (held_value dir.now.held)) (C.number (held_value dir.now.held)) name.now permissions) }
+        ensures made { OnOk result (WasMadeDir C.did C.guards (C.number (held_value dir.now.held)) dir.now.below name.now (bits_of 511 permissions)) }
+        ensures bits { OnOk result (HasBitsAt C.did C.guards (C.mask self.old.calls) (C.stamp (held_value dir.now.held)) (C.number (held_value dir.now.held)) dir.now.below name.now permissions) }
     {
         let mut page = page_of(self.alloc, &self.path)?;
         let told = self.make_dir_at(&mut page, dir, name, permissions);
+        self.counts.note_change();
         self.path.keep(page);
         told
     }
 
     fn remove_file(&mut self, dir: &Handle<C>, name: &Name) -> Result<(), DiskError>
         requires { IsLawfulName name.now }
-        ensures { OnOk result (C.did (RemovedFile (C.stamp (held_value dir.now.held)) name.now)) }
+        ensures { OnOk result (WasRemovedFile C.did C.guards (C.stamp (held_value dir.now.held)) (C.number (held_value dir.now.held)) dir.now.below name.now) }
     {
-        self.remove_file_at(dir, name)
+        let told = self.remove_file_at(dir, name);
+        self.counts.note_change();
+        told
     }
 
     fn remove_dir(&mut self, dir: &Handle<C>, name: &Name) -> Result<(), DiskError>
         requires { IsLawfulName name.now }
-        ensures { OnOk result (C.did (RemovedDir (C.stamp (held_value dir.now.held)) name.now)) }
+        ensures { OnOk result (WasRemovedDir C.did C.guards (C.stamp (held_value dir.now.held)) (C.number (held_value dir.now.held)) dir.now.below name.now) }
     {
-        self.remove_dir_at(dir, name)
+        let told = self.remove_dir_at(dir, name);
+        self.counts.note_change();
+        told
     }
 
     fn rename(
@@ -210,11 +259,12 @@ impl<C: SystemCalls + Drop, S: FileStore<Fd = C::Fd> + Drop> System for Linux<C,
     ) -> Result<(), DiskError>
         requires from { IsLawfulName from.now }
         requires to { IsLawfulName to.now }
-        ensures { OnOk result (C.did (Renamed (way_to (C.number (held_value from_dir.now.held)) ++ from.now) (way_to (C.number (held_value to_dir.now.held)) ++ to.now))) }
+        ensures { OnOk result (WasRenamed C.did (Reaches C.guards (C.number (held_value from_dir.now.held)) from_dir.now.below from.now) (Reaches C.guards (C.number (held_value to_dir.now.held)) to_dir.now.below to.now)) }
     {
         let mut old = page_of(self.alloc, &self.path)?;
         let mut new = page_of(self.alloc, &self.other)?;
         let told = self.rename_at((&mut old, &mut new), from_dir, from, to_dir, to);
+        self.counts.note_change();
         self.path.keep(old);
         self.other.keep(new);
         told

@@ -4,7 +4,7 @@
 use mirrord_programs::{
     Device, DeviceReplies, DeviceRequests, Failure, Fault, Standard, run, tell,
 };
-use mirrord_server::RECEIVED;
+use mirrord_server::{LinuxDisks, RECEIVED};
 use std::io::BufReader;
 use std::os::unix::fs::FileTypeExt;
 use std::process::ExitCode;
@@ -49,6 +49,7 @@ fn main(rt: HostRuntime) -> ExitCode {
         device: device_of(&rt),
     };
     let mut faults = rt.stderr();
-    let ended = run(&rt, &rt, &words, standard, &mut faults);
+    let disks = LinuxDisks::new(rt.alloc());
+    let ended = run(&rt, &rt, &disks, &words, standard, &mut faults);
     ExitCode::from(ended.status)
 }

@@ -1,14 +1,14 @@
 -- What is read of a command line.
-use Rattle.std.proofs.Common.{◌≡◌, Bool, true, false, [], codes, Option, Some, None, unwrap_or, option_map, is_some, refl, ap, ◌∙◌}
+use Rattle.std.proofs.Common.{◌≡◌, Bool, true, false, codes, Option, Some, None, unwrap_or, option_map, is_some, refl, ap}
 use Rattle.std.specs.Borrow.{Bor}
 use Rattle.clap.specs.Words.{Text}
 use Rattle.mirrord_commands.specs.CommandLine.{FlagReads, TextReads}
 
-pub text_reads : (got : Option (Bor Text)) (none text : Bor Text) (known : Option Text) → option_map (λ (s : Bor Text). s.now) got ≡ known → none.now ≡ [] → text ≡ unwrap_or got none → TextReads known text.now
-text_reads None none text None is empty read = ap (λ (s : Bor Text). s.now) read ∙ empty
-text_reads None none text (Some t) is empty read = cc
-text_reads (Some s) none text None is empty read = cc
-text_reads (Some s) none text (Some t) is empty read = cc
+pub text_reads : (got : Option (Bor Text)) (none text : Bor Text) (known : Option Text) → option_map (λ (s : Bor Text). s.now) got ≡ known → text ≡ unwrap_or got none → TextReads none.now known text.now
+text_reads None none text None is read = ap (λ (s : Bor Text). s.now) read
+text_reads None none text (Some t) is read = cc
+text_reads (Some s) none text None is read = cc
+text_reads (Some s) none text (Some t) is read = cc
 
 -- whether there is a value
 pub is_told : (got : Option (Bor Text)) (known : Option Text) → option_map (λ (s : Bor Text). s.now) got ≡ known → is_some got ≡ is_some known

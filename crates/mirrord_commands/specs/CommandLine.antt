@@ -1,5 +1,6 @@
 -- The command line, as clap reads it.
-use Rattle.std.specs.Prelude.{ℕ, ◌≡◌, ◌≢◌, ◌<◌, ◌^◌, ◌⊎◌, pos, Bool, true, false, is_some, List, [], ◌∷◌, codes, Option, Some, None}
+use Rattle.std.specs.Prelude.{ℕ, ◌≡◌, ◌≢◌, ◌<◌, ◌≤◌, ◌^◌, bytes_eq, ◌⊎◌, pos, Bool, true, false, is_some, List, [], ◌∷◌, codes, Option, Some, None}
+use Rattle.std.specs.List.{list_any}
 use Rattle.std.specs.Str.Parse.{IsNumeral, without_leading_plus, digits_value}
 use Rattle.clap.specs.Words.{App, Row, Rule, Text, first_of, new_app, new_rule, one_of, with_rule, with_subcommand}
 use Rattle.clap.specs.declared.builder.action.ArgAction.TheVariants.{Set, SetTrue}
@@ -112,25 +113,34 @@ mirrord_app = with_subcommand (with_subcommand stream_app device_app.top) hex_ap
 
 -- ---- what a command line asks for
 
--- the value of an option: its text, or empty if there is none
-abbrev pub TextReads : Option Text → Text → Type 0
-TextReads None text = text ≡ []
-TextReads (Some t) text = text ≡ t
+-- the value of an option: its text, or this one if there is none
+abbrev pub TextReads : (none : Text) → Option Text → Text → Type 0
+TextReads none None text = text ≡ none
+TextReads none (Some t) text = text ≡ t
 
 abbrev pub IsText : Text → List Row → Text → Type 0
-IsText id rows = TextReads (first_of id rows)
+IsText id rows = TextReads [] (first_of id rows)
 
--- a text that spells a number of that many bits
-abbrev pub IsSpelt : (bits : ℕ) → Text → Type 0
-IsSpelt bits text = IsNumeral 10 (without_leading_plus text) × (digits_value 10 (without_leading_plus text) < 2 ^ bits)
+-- a text that spells a number of 32 bits
+abbrev pub IsSpelt : Text → Type 0
+IsSpelt text = IsNumeral 10 (without_leading_plus text) × (digits_value 10 (without_leading_plus text) < 2 ^ 32)
 
--- the value of an option that takes a number: the number that its text spells, or 0 if it spells none
-pub record NumberReads (bits : ℕ) (text : Text) (n : ℕ) : Type 0 where
-  pub spelt : IsSpelt bits text → n ≡ digits_value 10 (without_leading_plus text)
-  pub none : (IsSpelt bits text → ⊥) → n ≡ 0
+-- a text spells this number
+pub record Spells (text : Text) (n : ℕ) : Type 0 where
+  pub spelt : IsSpelt text
+  pub value : n ≡ digits_value 10 (without_leading_plus text)
 
-abbrev pub IsNumber : (bits : ℕ) → Text → List Row → ℕ → Type 0
-IsNumber bits id rows n = (text : Text) × IsText id rows text × NumberReads bits text n
+-- the text of an option that takes a number; one that was not given, as a user or a group, is 0
+abbrev pub IsNumberText : Text → List Row → Text → Type 0
+IsNumberText id rows = TextReads (codes "0") (first_of id rows)
+
+-- the value of an option that takes a number: the number that its text spells
+abbrev pub IsNumber : Text → List Row → ℕ → Type 0
+IsNumber id rows n = (text : Text) × IsNumberText id rows text × Spells text n
+
+-- the options that take a number
+abbrev pub takes_number : Text → Bool
+takes_number id = list_any (λ name. bytes_eq id name) (codes "nodes" ∷ codes "files" ∷ codes "requests" ∷ codes "postings" ∷ codes "uid" ∷ codes "gid" ∷ codes "workers" ∷ [])
 
 -- the value of a flag
 abbrev pub FlagReads : Option Text → Bool → Type 0
@@ -145,12 +155,18 @@ abbrev pub AreCounts : List Row → Counts → Type 0
 AreCounts rows Bounded = IsText (codes "counts") rows (codes "bounded")
 AreCounts rows Free = IsText (codes "counts") rows (codes "free")
 
+-- how many threads serve: 1 to 4
+pub record AreWorkers (rows : List Row) (workers : ℕ) : Type 0 where
+  pub number : IsNumber (codes "workers") rows workers
+  pub least : 1 ≤ workers
+  pub most : workers ≤ 4
+
 -- how far the table may grow
 pub record AreBounds (rows : List Row) (bounds : Bounds) : Type 0 where
-  pub nodes : IsNumber 32 (codes "nodes") rows bounds.nodes
-  pub files : IsNumber 32 (codes "files") rows bounds.files
-  pub requests : IsNumber 32 (codes "requests") rows bounds.requests
-  pub postings : IsNumber 32 (codes "postings") rows bounds.postings
+  pub nodes : IsNumber (codes "nodes") rows bounds.nodes
+  pub files : IsNumber (codes "files") rows bounds.files
+  pub requests : IsNumber (codes "requests") rows bounds.requests
+  pub postings : IsNumber (codes "postings") rows bounds.postings
   pub counts : AreCounts rows bounds.counts
 
 -- whether an option without a default was given
@@ -160,14 +176,16 @@ is_given id rows = is_some (first_of id rows)
 -- whose attributes are reported: fixed ones with an owner, by default user 0 and group 0; or those of the host, which
 -- have their own owners
 abbrev pub AreSettings : List Row → Settings → Type 0
-AreSettings rows (Fixed uid gid) = IsText (codes "attributes") rows (codes "fixed") × IsNumber 32 (codes "uid") rows uid × IsNumber 32 (codes "gid") rows gid
+AreSettings rows (Fixed uid gid) = IsText (codes "attributes") rows (codes "fixed") × IsNumber (codes "uid") rows uid × IsNumber (codes "gid") rows gid
 AreSettings rows Host = IsText (codes "attributes") rows (codes "host") × (is_given (codes "uid") rows ≡ false) × (is_given (codes "gid") rows ≡ false)
 
--- why nothing can be served with these options: attributes or counts are neither of their two words, or an owner is
--- given with attributes of the host
+-- why nothing can be served with these options: attributes or counts are neither of their two words, an owner is given
+-- with attributes of the host, a number is none, or the threads are not 1 to 4
 abbrev pub AreRefused : List Row → OptionsRefusal → Type 0
 AreRefused rows Attributes = (text : Text) × IsText (codes "attributes") rows text × (text ≢ codes "fixed") × (text ≢ codes "host")
 AreRefused rows refusals.Counts = (text : Text) × IsText (codes "counts") rows text × (text ≢ codes "bounded") × (text ≢ codes "free")
+AreRefused rows refusals.Number = (id : Text) × (takes_number id ≡ true) × (text : Text) × IsNumberText id rows text × (IsSpelt text → ⊥)
+AreRefused rows refusals.Workers = (n : ℕ) × IsNumber (codes "workers") rows n × ((n ≡ 0) ⊎ (4 < n))
 AreRefused rows Owner = IsText (codes "attributes") rows (codes "host") × ((is_given (codes "uid") rows ≡ true) ⊎ (is_given (codes "gid") rows ≡ true))
 
 -- the settings of a session
@@ -175,17 +193,21 @@ pub record AreTerms (rows : List Row) (terms : Terms) : Type 0 where
   pub settings : AreSettings rows terms.settings
   pub bounds : AreBounds rows terms.bounds
 
+-- the subcommands that serve a folder
+abbrev pub IsFolderServed : Text → Type 0
+IsFolderServed name = (name ≡ codes "serve") ⊎ ((name ≡ codes "pipe") ⊎ (name ≡ codes "device"))
+
 -- what the subcommand with that name asks for, which was read with these rows
 abbrev pub IsAskedBy : Text → List Row → Options → Type 0
 IsAskedBy name rows (Serve root socket workers single terms) =
     (name ≡ codes "serve") × IsText (codes "root") rows root.now × IsText (codes "socket") rows socket.now
-    × IsNumber 8 (codes "workers") rows workers × IsFlag (codes "single") rows single × AreTerms rows terms
+    × AreWorkers rows workers × IsFlag (codes "single") rows single × AreTerms rows terms
 IsAskedBy name rows (Pipe root terms) = (name ≡ codes "pipe") × IsText (codes "root") rows root.now × AreTerms rows terms
 IsAskedBy name rows (Device root workers single terms) =
     (name ≡ codes "device") × IsText (codes "root") rows root.now
-    × IsNumber 8 (codes "workers") rows workers × IsFlag (codes "single") rows single × AreTerms rows terms
-IsAskedBy name rows (Refused refusal) = ((name ≡ codes "serve") ⊎ ((name ≡ codes "pipe") ⊎ (name ≡ codes "device"))) × AreRefused rows refusal
-IsAskedBy name rows (Hex sample postings) = (name ≢ codes "serve") × (name ≢ codes "pipe") × (name ≢ codes "device") × IsFlag (codes "sample") rows sample × IsNumber 32 (codes "postings") rows postings
+    × AreWorkers rows workers × IsFlag (codes "single") rows single × AreTerms rows terms
+IsAskedBy name rows (Refused refusal) = ((refusal ≡ refusals.Number) ⊎ IsFolderServed name) × AreRefused rows refusal
+IsAskedBy name rows (Hex sample postings) = (name ≢ codes "serve") × (name ≢ codes "pipe") × (name ≢ codes "device") × IsFlag (codes "sample") rows sample × IsNumber (codes "postings") rows postings
 
 abbrev pub IsAsked : Option (Text × List Row) → Options → Type 0
 IsAsked None options = options ≡ Hex false 1048576

@@ -1,9 +1,9 @@
 //! Why a program ends with a status other than 0, and its one line about that.
 
-ghost use Rattle.std.specs.Prelude.{◌≡◌, ◌⊎◌, true};
+ghost use Rattle.std.specs.Prelude.{◌≡◌, true};
 ghost use Rattle.std.specs.Io.KnownBytes.{Appends};
 ghost use Rattle.mirrord_commands.specs.Faults.{line_of, status_of};
-ghost use Rattle.mirrord_commands.specs.declared.faults.Fault.TheVariants.{Link, Memory};
+ghost use Rattle.mirrord_commands.specs.declared.faults.Fault.TheVariants.{Memory};
 
 use crate::refusals::OptionsRefusal;
 use std::alloc::AllocError;
@@ -23,6 +23,8 @@ pub enum Fault {
     Link,
     /// Memory was refused.
     Memory,
+    /// The system does not let the process reach what it has open by `/proc/self/fd`.
+    Descriptors,
     /// The system gives no random bytes.
     Seed,
     /// There were no directories for threads to serve, or more than four.
@@ -53,7 +55,12 @@ impl<'a> Failure<'a> {
             Failure::Refused(_) | Failure::NoDevice => 2,
             Failure::Stopped(Fault::FrameLength { .. }) => 3,
             Failure::Stopped(
-                Fault::Line { .. } | Fault::Link | Fault::Memory | Fault::Seed | Fault::Workers,
+                Fault::Line { .. }
+                | Fault::Link
+                | Fault::Memory
+                | Fault::Descriptors
+                | Fault::Seed
+                | Fault::Workers,
             )
             | Failure::NoFolder { .. }
             | Failure::NoSocket { .. } => 4,
@@ -76,6 +83,7 @@ impl Display for Fault {
             Fault::Line { line } => write!(f, "line {line} is not hexadecimal"),
             Fault::Link => f.write_str("the link failed"),
             Fault::Memory => f.write_str("out of memory"),
+            Fault::Descriptors => f.write_str("/proc/self/fd cannot be used"),
             Fault::Seed => f.write_str("no random seed"),
             Fault::Workers => f.write_str("1 to 4 workers can serve"),
         }
@@ -110,7 +118,10 @@ impl From<AllocError> for Fault {
 }
 
 impl From<io::Error> for Fault {
-    ghost from_gives = { λ _ fault. (fault ≡ Link) ⊎ (fault ≡ Memory) };
+    ghost use Rattle.std.specs.IoError.{error_kind};
+    ghost use Rattle.mirrord_commands.specs.Faults.{fault_by};
+
+    ghost from_gives = { λ error fault. fault ≡ fault_by (error_kind error) };
 
     fn from(error: io::Error) -> Fault {
         match error.kind() {

@@ -1,9 +1,11 @@
 //! What a command line asks for.
 
-ghost use Rattle.std.specs.Prelude.{◌≡◌, ◌⊎◌, codes, true, map, IfErr, IfOk};
-ghost use Rattle.clap.specs.Words.{fault_of, found_of, kind_of, rows_of, subcommand_of, subcommand_rows_of, takes, FailsBy};
+ghost use Rattle.std.specs.Prelude.{◌≡◌, ◌≢◌, codes, true, map, IfErr, IfOk, MatchOption, MatchResult};
+ghost use Rattle.clap.specs.Words.{Text, fault_of, first_of, found_of, kind_of, rows_of, subcommand_of, subcommand_rows_of, takes, FailsBy};
 ghost use Rattle.clap.specs.declared.error.kind.ErrorKind.TheVariants.{OutOfMemory};
-ghost use Rattle.mirrord_commands.specs.CommandLine.{mirrord_app, AreBounds, AreCounts, AreRefused, AreSettings, AreTerms, IsAsked, IsAskedBy, IsFlag, IsNumber, IsText, NumberReads, is_given};
+ghost use Rattle.mirrord_commands.specs.CommandLine.{mirrord_app, AreBounds, AreCounts, AreRefused, AreSettings, AreTerms, AreWorkers, IsAsked, IsAskedBy, IsFlag, IsNumber, IsSpelt, IsText, Spells, TextReads, is_given, takes_number};
+ghost use Rattle.mirrord_commands.specs.declared.options.Options.TheVariants.{Refused};
+ghost use Rattle.mirrord_commands.specs.declared.refusals.OptionsRefusal.TheVariants.{Number};
 
 use crate::arguments::DEFAULT_POSTINGS;
 use crate::command::command;
@@ -58,45 +60,52 @@ pub enum Options<'a> {
     Refused(OptionsRefusal),
 }
 
+/// The text of an option, or this one if there is none.
+fn text_or<'a>(matches: &ArgMatches<'a>, name: &str, none: &'a str) -> &'a str
+    ensures { TextReads none.entry.now (first_of name.now (rows_of (found_of matches.now))) result.now }
+{
+    matches.get_str(name).unwrap_or(none)
+}
+
 /// The text of an option.
 fn text_in<'a>(matches: &ArgMatches<'a>, name: &str) -> &'a str
     ensures { IsText name.now (rows_of (found_of matches.now)) result.now }
 {
-    matches.get_str(name).unwrap_or("")
+    text_or(matches, name, "")
 }
 
-/// The number that a text spells, or 0 if it spells none. Of such texts clap lets only `-0` through.
-fn number_of(text: &str) -> u32
-    ensures { NumberReads 32 text.now result }
+/// The number that a text spells. None means that it spells none.
+fn number_of(text: &str) -> Option<u32>
+    ensures { MatchOption result (IsSpelt text.now → ⊥) (Spells text.now) }
 {
     match text.parse::<u32>() {
-        Ok(number) => number,
-        Err(_) => 0,
-    }
-}
-
-/// The same for a small number.
-fn small_number_of(text: &str) -> u8
-    ensures { NumberReads 8 text.now result }
-{
-    match text.parse::<u8>() {
-        Ok(number) => number,
-        Err(_) => 0,
+        Ok(number) => Some(number),
+        Err(_) => None,
     }
 }
 
 /// The number of an option.
-fn number_in(matches: &ArgMatches<'_>, name: &str) -> u32
-    ensures { IsNumber 32 name.now (rows_of (found_of matches.now)) result }
+fn number_in(matches: &ArgMatches<'_>, name: &str) -> Result<u32, OptionsRefusal>
+    requires { takes_number name.now ≡ true }
+    ensures ok { IfOk result (IsNumber name.now (rows_of (found_of matches.now))) }
+    ensures err { IfErr result (λ refusal. (refusal ≡ Number) × AreRefused (rows_of (found_of matches.now)) refusal) }
 {
-    number_of(text_in(matches, name))
+    match number_of(text_or(matches, name, "0")) {
+        Some(number) => Ok(number),
+        None => Err(OptionsRefusal::Number),
+    }
 }
 
-/// The small number of an option.
-fn small_number_in(matches: &ArgMatches<'_>, name: &str) -> u8
-    ensures { IsNumber 8 name.now (rows_of (found_of matches.now)) result }
+/// How many threads serve.
+fn workers_in(matches: &ArgMatches<'_>) -> Result<u8, OptionsRefusal>
+    ensures ok { IfOk result (AreWorkers (rows_of (found_of matches.now))) }
+    ensures err { IfErr result (AreRefused (rows_of (found_of matches.now))) }
 {
-    small_number_of(text_in(matches, name))
+    let workers = number_in(matches, "workers")?;
+    if workers == 0 || workers > 4 {
+        return Err(OptionsRefusal::Workers);
+    }
+    Ok(workers as u8)
 }
 
 /// Whether a flag is set.
@@ -127,11 +136,15 @@ fn bounds_in(matches: &ArgMatches<'_>) -> Result<Bounds, OptionsRefusal>
     ensures err { IfErr result (AreRefused (rows_of (found_of matches.now))) }
 {
     let counts = counts_in(matches)?;
+    let nodes = number_in(matches, "nodes")?;
+    let files = number_in(matches, "files")?;
+    let requests = number_in(matches, "requests")?;
+    let postings = number_in(matches, "postings")?;
     Ok(Bounds {
-        nodes: number_in(matches, "nodes"),
-        files: number_in(matches, "files"),
-        requests: number_in(matches, "requests"),
-        postings: number_in(matches, "postings"),
+        nodes,
+        files,
+        requests,
+        postings,
         counts,
     })
 }
@@ -150,8 +163,8 @@ fn settings_in(matches: &ArgMatches<'_>) -> Result<Settings, OptionsRefusal>
 {
     let attributes = text_in(matches, "attributes");
     if attributes == "fixed" {
-        let uid = number_in(matches, "uid");
-        let gid = number_in(matches, "gid");
+        let uid = number_in(matches, "uid")?;
+        let gid = number_in(matches, "gid")?;
         return Ok(Settings::Fixed { uid, gid });
     }
     // Clap could restrict the option to some words, but not let its value exclude other options. So both refusals are
@@ -176,45 +189,66 @@ fn terms_in(matches: &ArgMatches<'_>) -> Result<Terms, OptionsRefusal>
 }
 
 /// What `serve` asks for.
-fn serve_asked<'a>(matches: &ArgMatches<'a>) -> Options<'a>
-    ensures { IsAskedBy (codes "serve") (rows_of (found_of matches.now)) result }
+fn serve_asked<'a>(matches: &ArgMatches<'a>) -> Result<Options<'a>, OptionsRefusal>
+    ensures ok { IfOk result (IsAskedBy (codes "serve") (rows_of (found_of matches.now))) }
+    ensures err { IfErr result (AreRefused (rows_of (found_of matches.now))) }
 {
-    match terms_in(matches) {
-        Ok(terms) => Options::Serve {
-            root: text_in(matches, "root"),
-            socket: text_in(matches, "socket"),
-            workers: small_number_in(matches, "workers"),
-            single: flag_in(matches, "single"),
-            terms,
-        },
-        Err(refusal) => Options::Refused(refusal),
-    }
+    let terms = terms_in(matches)?;
+    let workers = workers_in(matches)?;
+    Ok(Options::Serve {
+        root: text_in(matches, "root"),
+        socket: text_in(matches, "socket"),
+        workers,
+        single: flag_in(matches, "single"),
+        terms,
+    })
 }
 
 /// What `pipe` asks for.
-fn pipe_asked<'a>(matches: &ArgMatches<'a>) -> Options<'a>
-    ensures { IsAskedBy (codes "pipe") (rows_of (found_of matches.now)) result }
+fn pipe_asked<'a>(matches: &ArgMatches<'a>) -> Result<Options<'a>, OptionsRefusal>
+    ensures ok { IfOk result (IsAskedBy (codes "pipe") (rows_of (found_of matches.now))) }
+    ensures err { IfErr result (AreRefused (rows_of (found_of matches.now))) }
 {
-    match terms_in(matches) {
-        Ok(terms) => Options::Pipe {
-            root: text_in(matches, "root"),
-            terms,
-        },
-        Err(refusal) => Options::Refused(refusal),
-    }
+    let terms = terms_in(matches)?;
+    Ok(Options::Pipe {
+        root: text_in(matches, "root"),
+        terms,
+    })
 }
 
 /// What `device` asks for.
-fn device_asked<'a>(matches: &ArgMatches<'a>) -> Options<'a>
-    ensures { IsAskedBy (codes "device") (rows_of (found_of matches.now)) result }
+fn device_asked<'a>(matches: &ArgMatches<'a>) -> Result<Options<'a>, OptionsRefusal>
+    ensures ok { IfOk result (IsAskedBy (codes "device") (rows_of (found_of matches.now))) }
+    ensures err { IfErr result (AreRefused (rows_of (found_of matches.now))) }
 {
-    match terms_in(matches) {
-        Ok(terms) => Options::Device {
-            root: text_in(matches, "root"),
-            workers: small_number_in(matches, "workers"),
-            single: flag_in(matches, "single"),
-            terms,
-        },
+    let terms = terms_in(matches)?;
+    let workers = workers_in(matches)?;
+    Ok(Options::Device {
+        root: text_in(matches, "root"),
+        workers,
+        single: flag_in(matches, "single"),
+        terms,
+    })
+}
+
+/// What `hex` asks for.
+fn hex_asked<'a>(matches: &ArgMatches<'a>) -> Result<Options<'a>, OptionsRefusal>
+    ensures ok { IfOk result (λ options. (name : Text) → (name ≢ codes "serve") → (name ≢ codes "pipe") → (name ≢ codes "device") → IsAskedBy name (rows_of (found_of matches.now)) options) }
+    ensures err { IfErr result (λ refusal. (refusal ≡ Number) × AreRefused (rows_of (found_of matches.now)) refusal) }
+{
+    let postings = number_in(matches, "postings")?;
+    Ok(Options::Hex {
+        sample: flag_in(matches, "sample"),
+        postings,
+    })
+}
+
+/// What was asked for, or why it is refused.
+fn or_refused<'a>(asked: Result<Options<'a>, OptionsRefusal>) -> Options<'a>
+    ensures { MatchResult asked.entry (λ options. result ≡ options) (λ refusal. result ≡ Refused refusal) }
+{
+    match asked {
+        Ok(options) => options,
         Err(refusal) => Options::Refused(refusal),
     }
 }
@@ -224,18 +258,15 @@ fn asked_by<'a>(name: &str, matches: &ArgMatches<'a>) -> Options<'a>
     ensures { IsAskedBy name.now (rows_of (found_of matches.now)) result }
 {
     if name == "serve" {
-        return serve_asked(matches);
+        return or_refused(serve_asked(matches));
     }
     if name == "pipe" {
-        return pipe_asked(matches);
+        return or_refused(pipe_asked(matches));
     }
     if name == "device" {
-        return device_asked(matches);
+        return or_refused(device_asked(matches));
     }
-    Options::Hex {
-        sample: flag_in(matches, "sample"),
-        postings: number_in(matches, "postings"),
-    }
+    or_refused(hex_asked(matches))
 }
 
 /// What a command line asks for, after clap has read it.

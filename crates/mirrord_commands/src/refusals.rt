@@ -3,7 +3,7 @@
 use std::fmt;
 use std::fmt::Display;
 
-/// Why options of `serve`, `pipe` and `device` are refused.
+/// Why options are refused. Only `Number` concerns `hex`.
 #[derive(Clone, Copy, Debug, PartialEq, Eq)]
 pub enum OptionsRefusal {
     /// `--attributes` is neither `fixed` nor `host`.
@@ -12,6 +12,10 @@ pub enum OptionsRefusal {
     Counts,
     /// An owner is given, although the attributes are to be the host's, which include the owners.
     Owner,
+    /// The text of an option that takes a number spells none. Clap lets `-0` through, and nothing else of that kind.
+    Number,
+    /// `--workers` is not 1 to 4. Clap lets no such number through, but no contract rests on that.
+    Workers,
 }
 
 impl Display for OptionsRefusal {
@@ -27,6 +31,10 @@ impl Display for OptionsRefusal {
             OptionsRefusal::Owner => f.write_str(
                 "with --attributes host there is no --uid and no --gid",
             ),
+            OptionsRefusal::Number => {
+                f.write_str("a number is written in digits, without a minus sign")
+            }
+            OptionsRefusal::Workers => f.write_str("--workers is 1 to 4"),
         }
     }
 }

@@ -7,10 +7,12 @@ mod standard;
 mod standing;
 
 pub use engine_streams::{Device, DeviceReplies, DeviceRequests};
-pub use folders::{FolderServed, Serving, device_run, serve_run};
+pub use folders::{FolderServed, RunEnd, Serving, device_run, serve_run};
 pub use mirrord_commands::{
     DEFAULT_POSTINGS, Failure, Fault, Options, OptionsRefusal, read_options, tell,
 };
-pub use mirrord_sessions::{HexLink, ProgramEnd, hex_run, new_tree, pipe_run};
+pub use mirrord_sessions::{
+    Disks, HexLink, LinuxDisks, ProgramEnd, Streams, hex_run, new_tree, pipe_run,
+};
 pub use runs::run;
 pub use standard::Standard;

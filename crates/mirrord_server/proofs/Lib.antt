@@ -1,1 +1,3 @@
 pub mod Threads
+pub mod Devices
+pub mod Sockets

@@ -1,40 +1,38 @@
 -- A folder that is served by several threads.
-use Rattle.std.proofs.Common.{ℕ, ◌+◌, ◌<◌, ◌≡◌, ◌⊎◌, List, Option, Some, None, IfNone, IfSome, inl, inr, option_map, replicate, subst}
-use Rattle.std.specs.List.{range_with_len}
-use Rattle.crossbeam_channel.specs.Claims.{view}
-use Rattle.backing_folder.specs.Explained.{Tells}
+use Rattle.std.proofs.Common.{ℕ, ◌<◌, ◌≡◌, ◌⊎◌, List, Option, Some, None, IfNone, IfSome, inl, inr, ap, replicate, subst, ◌∙◌}
 use Rattle.table_shared.specs.Histories.{Made}
 use Rattle.engine.specs.declared.ends.SessionEnd.{SessionEnd}
 use Rattle.engine.specs.declared.ends.SessionEnd.TheVariants as end
-use Rattle.engine_turns.specs.Shown.{queued_of, shown}
-use Rattle.engine_turns.specs.Reads.{HasReadAll}
-use Rattle.engine_threads.specs.Ended.{EndsAs, IsShared}
-use Rattle.engine_threads.specs.Served.{HasServed}
-use Rattle.engine_queues.specs.Gathered.{numbers_of}
+use Rattle.engine_threads.specs.Ended.{EndsAs}
+use Rattle.engine_threads.specs.Served.{served_with, Behaviours, Ground, HasServed}
 use Rattle.engine_threads.specs.declared.ended.Account.{Account}
+use Rattle.engine_threads.specs.declared.given.Given.{Given}
 use Rattle.terms.specs.Limits.{limits_of}
-use Rattle.mirrord_server.specs.Workers.{ServesLinks, BothEnds}
+use Rattle.mirrord_server.specs.Workers.{ServesLinks}
 use Rattle.terms.specs.declared.terms.Terms.{Terms}
 
+-- what a session is served with, or what came back
+abbrev pub ground_of : {I O : Type 0} → Given I O ℕ → Ground I O ℕ
+ground_of given = served_with given.link_in given.link_out given.calls.items
+
 -- what was done with the folders
-pub served_by : {I O : Type 0} (by : BothEnds I O) (terms : Terms) (workers : ℕ) (folders : List ℕ) (input : I) (output : O) (account : Option Account) (over : SessionEnd)
-    → folders ≡ replicate workers 0
+pub served_by : {I O : Type 0} (by : Behaviours I O ℕ) (terms : Terms) (workers : ℕ) (given back : Given I O ℕ) (account : Option Account) (over : SessionEnd)
+    → given.calls.items ≡ replicate workers 0
     → (over ≡ end.NoWorkers → (workers ≡ 0) ⊎ (4 < workers))
-    → IfNone account ((over ≡ end.Memory) ⊎ (over ≡ end.NoWorkers))
+    → IfNone account (((over ≡ end.Memory) ⊎ (over ≡ end.NoWorkers)) × (back ≡ given))
     → IfSome account (λ a. EndsAs a.passed.input a.passed.is_broken over)
-    → IfSome account (λ a. numbers_of a.passed.passes.value.items ≡ range_with_len 0 (workers + 1))
-    → IfSome account (λ a. ∥ HasReadAll by.receives (Some input) a.passed.input (queued_of (view a.passed.read.value).put) (option_map shown a.passed.last_job.value) a.passed.is_job_handed_back ∥₁)
-    → IfSome account (λ a. IsShared (view a.passed.read.value) a.passed.passes.value.items (view a.passed.written.value))
-    → IfSome account (λ a. ∥ ((history : List Made) × HasServed Tells by.sends (limits_of terms.bounds) terms.settings folders output a.passed a.sums.totals history) ∥₁)
-    → ServesLinks by terms workers input output over
-served_by by terms workers folders input output None over new only (inl starved) ends numbers reads shared served = inr (inl starved)
-served_by by terms workers folders input output None over new only (inr nobody) ends numbers reads shared served = inr (inr (nobody, only nobody))
-served_by by terms workers folders input output (Some account) over new only lost ends numbers reads shared served =
+    → IfSome account (λ a. ∥ ((history : List Made) × HasServed by (limits_of terms.bounds) terms.settings a.passed a.sums.totals (ground_of given) (ground_of back) history) ∥₁)
+    → ServesLinks by terms workers given.link_in given.link_out over (ground_of back)
+served_by by terms workers given back None over new only (why, same) ends served =
+    let beginning = ap ground_of same ∙ ap (λ (calls : List ℕ). served_with given.link_in given.link_out calls) new in
+    inr (record { why = told why; back_is = beginning })
+  where
+    told : ((over ≡ end.Memory) ⊎ (over ≡ end.NoWorkers)) → (over ≡ end.Memory) ⊎ ((over ≡ end.NoWorkers) × ((workers ≡ 0) ⊎ (4 < workers)))
+    told (inl starved) = inl starved
+    told (inr nobody) = inr (nobody, only nobody)
+served_by by terms workers given back (Some account) over new only unserved ends served =
     inl (record {
       account = account;
-      numbers = numbers;
-      reads = reads;
-      shared = shared;
-      served = subst (λ (calls : List ℕ). ∥ ((history : List Made) × HasServed Tells by.sends (limits_of terms.bounds) terms.settings calls output account.passed account.sums.totals history) ∥₁) new served;
+      served = subst (λ (calls : List ℕ). ∥ ((history : List Made) × HasServed by (limits_of terms.bounds) terms.settings account.passed account.sums.totals (served_with given.link_in given.link_out calls) (ground_of back) history) ∥₁) new served;
       ends = ends;
     })

@@ -1,7 +1,9 @@
 //! Serving a folder of the system over the kernel's FUSE device with several threads.
 
+ghost use Rattle.std.specs.Prelude.{◌≡◌, replicate, vec_len};
 ghost use Rattle.mirrord_server.specs.Workers.{ServesDeviceBy};
 
+use crate::host_folder::HostFolder;
 use crate::workers::{open_folders, serve_workers};
 use engine::SessionEnd;
 use engine_streams::{Device, DeviceLink, NoDevice, ReadRequest, WriteReply};
@@ -9,26 +11,23 @@ use mirrord_sessions::{Terms, Unserved, new_seeds};
 use std::random::RandomSource;
 use std::sync::Wait;
 use std::thread::Threads;
+use table::Seeds;
 
-/// Serves the folder at `root` as `serve_device` does, but with that many threads, from 1 to 4. Each of them reads,
-/// works on requests or writes replies, whichever is due, and has a folder of its own on the same root. The folders use
-/// `host`, which is the same system.
-pub fn serve_device_by<
-    H: Threads + Wait + RandomSource + AllocGlobal + Clone + Send + Sync + Drop + 'static,
+/// Serves the kernel over a device from which nothing was read yet, with one thread for each folder.
+fn serve_opened<
+    H: Threads + Wait + AllocGlobal + Clone + Send + Sync + Drop + 'static,
     R: ReadRequest + Send + Drop + 'static,
     W: WriteReply + Send + Drop + 'static,
 >(
     rt: &H,
-    host: &HostRuntime,
-    root: &str,
-    workers: u8,
+    folders: Vec<HostFolder<H>>,
+    seeds: Seeds,
     terms: Terms,
     device: Device<R, W>,
 ) -> Result<SessionEnd, Unserved>
-    ensures { ServesDeviceBy R.gives W.takes terms workers device.requests device.replies result }
+    requires { folders.items ≡ replicate (vec_len folders) 0 }
+    ensures { ServesDeviceBy R.gives W.takes terms (vec_len folders) device.requests device.replies result }
 {
-    let folders = open_folders(host, root, workers)?;
-    let seeds = new_seeds(rt)?;
     let Device { requests, replies } = device;
     let Ok(link_in) = DeviceLink::new(rt.alloc(), requests, NoDevice) else {
         return Err(Unserved::Memory);
@@ -36,5 +35,25 @@ pub fn serve_device_by<
     let Ok(link_out) = DeviceLink::new(rt.alloc(), NoDevice, replies) else {
         return Err(Unserved::Memory);
     };
-    Ok(serve_workers(rt, folders, seeds, terms, link_in, link_out))
+    Ok(serve_workers(rt, folders, seeds, terms, link_in, link_out).end)
+}
+
+/// Serves the folder at `root` as `serve_device` does, but with that many threads, from 1 to 4. Each of them reads,
+/// works on requests or writes replies, whichever is due, and has a folder of its own on the same root.
+pub fn serve_device_by<
+    H: Threads + Wait + RandomSource + AllocGlobal + Clone + Send + Sync + Drop + 'static,
+    R: ReadRequest + Send + Drop + 'static,
+    W: WriteReply + Send + Drop + 'static,
+>(
+    rt: &H,
+    root: &str,
+    workers: u8,
+    terms: Terms,
+    device: Device<R, W>,
+) -> Result<SessionEnd, Unserved>
+    ensures { ServesDeviceBy R.gives W.takes terms workers device.requests device.replies result }
+{
+    let folders = open_folders(rt, root, workers)?;
+    let seeds = new_seeds(rt)?;
+    serve_opened(rt, folders, seeds, terms, device)
 }

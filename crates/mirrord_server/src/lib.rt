@@ -2,12 +2,13 @@
 #![tactic(auto)]
 
 mod device;
+mod host_folder;
 mod socket;
 mod workers;
 
 pub use device::serve_device_by;
 pub use mirrord_sessions::{
-    Bounds, RECEIVED, StreamEnd, Terms, Unserved, serve_alone, serve_device, serve_folder,
-    serve_known, serve_socket,
+    Bounds, Disks, LinuxDisks, RECEIVED, StreamEnd, Terms, Unserved, serve_alone, serve_device,
+    serve_folder, serve_known, serve_socket,
 };
 pub use socket::serve_socket_by;

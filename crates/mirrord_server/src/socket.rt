@@ -1,15 +1,17 @@
 //! Serving a folder of the system over a Unix socket with several threads.
 
 ghost use Rattle.std.specs.Prelude.{◌≡◌, replicate, vec_len};
-ghost use Rattle.mirrord_server.specs.Workers.{ServesWorkers};
+ghost use Rattle.mirrord_server.specs.Workers.{from_socket, to_socket, ServesWorkers};
 
-use crate::workers::{HostFolder, open_folders, serve_workers};
+use crate::host_folder::HostFolder;
+use crate::workers::{open_folders, serve_workers};
 use engine::SessionEnd;
 use engine_streams::StreamLink;
 use mirrord_sessions::{RECEIVED, SocketFile, Terms, Unserved, new_seeds};
+use std::alloc::Global;
 use std::fs::File;
 use std::io;
-use std::io::BufReader;
+use std::io::{BufReader, Empty, Sink};
 use std::net::Net;
 use std::os::unix::net::UnixStream;
 use std::random::RandomSource;
@@ -34,10 +36,24 @@ fn meet<R: AllocGlobal>(
     Ok((input, output))
 }
 
+/// The link over which a client sends.
+fn link_from(alloc: Global, input: BufReader<UnixStream>) -> StreamLink<BufReader<UnixStream>, Sink>
+    ensures { result ≡ from_socket }
+{
+    StreamLink::new(alloc, input, io::sink())
+}
+
+/// The link over which it gets its replies.
+fn link_to(alloc: Global, output: UnixStream) -> StreamLink<Empty, UnixStream>
+    ensures { result ≡ to_socket }
+{
+    StreamLink::new(alloc, io::empty(), output)
+}
+
 /// Serves the first client that connects.
 fn serve_first<H: Threads + Wait + AllocGlobal + Clone + Send + Sync + Drop + 'static>(
     rt: &H,
-    folders: Vec<HostFolder>,
+    folders: Vec<HostFolder<H>>,
     seeds: Seeds,
     terms: Terms,
     place: &SocketFile,
@@ -46,9 +62,9 @@ fn serve_first<H: Threads + Wait + AllocGlobal + Clone + Send + Sync + Drop + 's
     ensures { ServesWorkers terms (vec_len folders) result }
 {
     let (input, output) = meet(rt, place)?;
-    let link_in = StreamLink::new(rt.alloc(), input, io::sink());
-    let link_out = StreamLink::new(rt.alloc(), io::empty(), output);
-    Ok(serve_workers(rt, folders, seeds, terms, link_in, link_out))
+    let link_in = link_from(rt.alloc(), input);
+    let link_out = link_to(rt.alloc(), output);
+    Ok(serve_workers(rt, folders, seeds, terms, link_in, link_out).end)
 }
 
 /// Serves the first client that connects to a new socket at `path`, whose file is removed afterwards.
@@ -65,7 +81,7 @@ fn serve_at<
         + 'static,
 >(
     rt: &H,
-    folders: Vec<HostFolder>,
+    folders: Vec<HostFolder<H>>,
     seeds: Seeds,
     terms: Terms,
     path: &str,
@@ -80,8 +96,7 @@ fn serve_at<
 }
 
 /// Serves the folder at `root` as `serve_socket` does, but with that many threads, from 1 to 4. Each of them reads,
-/// works on requests or writes replies, whichever is due, and has a folder of its own on the same root. The folders use
-/// `host`, which is the same system.
+/// works on requests or writes replies, whichever is due, and has a folder of its own on the same root.
 pub fn serve_socket_by<
     H: Threads
         + Wait
@@ -94,18 +109,11 @@ pub fn serve_socket_by<
         + Sync
         + Drop
         + 'static,
->(
-    rt: &H,
-    host: &HostRuntime,
-    root: &str,
-    path: &str,
-    workers: u8,
-    terms: Terms,
-) -> Result<SessionEnd, Unserved>
+>(rt: &H, root: &str, path: &str, workers: u8, terms: Terms) -> Result<SessionEnd, Unserved>
     ensures { ServesWorkers terms workers result }
 {
     // The folders are opened before the socket is made, so that a bad folder leaves no file.
-    let folders = open_folders(host, root, workers)?;
+    let folders = open_folders(rt, root, workers)?;
     let seeds = new_seeds(rt)?;
     serve_at(rt, folders, seeds, terms, path)
 }

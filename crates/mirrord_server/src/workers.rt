@@ -1,35 +1,34 @@
 //! Serving a folder of the system with several threads.
 
 ghost use Rattle.std.specs.Prelude.{◌≡◌, IfOk, replicate, vec_len};
-ghost use Rattle.mirrord_server.specs.Workers.{ServesLinks, both_ends};
+ghost use Rattle.disk_folder.specs.Explained.{Tells};
+ghost use Rattle.engine_threads.specs.Served.{behaviours, served_with};
+ghost use Rattle.mirrord_server.specs.Workers.{ServesLinks};
 
-use backing_folder::{Folder, System};
-use engine::{LinkIn, LinkOut, SessionEnd};
-use engine_threads::serve_threads;
-use mirrord_sessions::{Terms, Unserved, open_folder};
-use std::fs::ReadDir;
+use crate::host_folder::{HostFolder, open_first, open_next};
+use engine::{LinkIn, LinkOut};
+use engine_threads::{Ended, Given, serve_threads};
+use mirrord_sessions::{Terms, Unserved};
+use std::random::RandomSource;
 use std::sync::Wait;
 use std::thread::Threads;
 use table::Seeds;
 
-/// A folder that another thread may use. It names the runtime, since what is sent to a thread may not depend on a bound
-/// of a type parameter.
-pub(crate) type HostFolder = Folder<System<HostRuntime>>;
-
 /// A folder for each worker, all on the same root.
-pub(crate) fn open_folders(
-    host: &HostRuntime,
+pub(crate) fn open_folders<H: Wait + RandomSource + AllocGlobal + Clone + Drop>(
+    rt: &H,
     root: &str,
     workers: u8,
-) -> Result<Vec<HostFolder>, Unserved>
+) -> Result<Vec<HostFolder<H>>, Unserved>
     ensures unused { IfOk result (λ folders. folders.items ≡ replicate workers 0) }
     ensures len { IfOk result (λ folders. vec_len folders ≡ workers) }
 {
-    let Ok(mut folders) = Vec::with_capacity(host.alloc(), usize::from(workers)) else {
+    let Ok(mut folders) = Vec::with_capacity(rt.alloc(), usize::from(workers)) else {
         return Err(Unserved::Memory);
     };
+    let first = open_first(rt, root)?;
     for opened in 0..workers {
-        folders.push_reserved(open_folder(host, root)?);
+        folders.push_reserved(open_next(rt, &first, workers)?);
     }
     Ok(folders)
 }
@@ -41,25 +40,19 @@ pub(crate) fn serve_workers<
     O: LinkOut + Send + Drop + 'static,
 >(
     rt: &H,
-    folders: Vec<HostFolder>,
+    folders: Vec<HostFolder<H>>,
     seeds: Seeds,
     terms: Terms,
     link_in: I,
     link_out: O,
-) -> SessionEnd
+) -> Ended<I, O, HostFolder<H>>
     requires { folders.items ≡ replicate (vec_len folders) 0 }
-    ensures { ServesLinks (both_ends I.receives O.sends) terms (vec_len folders) link_in link_out result }
+    ensures { ServesLinks (behaviours Tells I.receives O.sends) terms (vec_len folders) link_in link_out result.end (served_with result.back.link_in result.back.link_out result.back.calls.items) }
 {
-    let _names: Option<ReadDir> = None; // proof: a type that a folder's calls name
-    let ended = serve_threads(
-        rt,
-        rt.alloc(),
+    let given = Given {
         link_in,
         link_out,
-        folders,
-        terms.limits(),
-        seeds,
-        terms.settings,
-    );
-    ended.end
+        calls: folders,
+    };
+    serve_threads(rt, rt.alloc(), given, terms.limits(), seeds, terms.settings)
 }

@@ -3,3 +3,4 @@ pub mod KnownRuns
 pub mod Streaming
 pub mod Sampling
 pub mod Writing
+pub mod Sockets

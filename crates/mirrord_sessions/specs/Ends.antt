@@ -8,7 +8,7 @@ use Rattle.mirrord_sessions.specs.declared.folder.Unserved.{Unserved}
 use Rattle.mirrord_sessions.specs.declared.folder.Unserved.TheVariants as unserved
 use Rattle.mirrord_commands.specs.Faults.{line_of, status_of}
 use Rattle.mirrord_commands.specs.declared.faults.Fault.{Fault}
-use Rattle.mirrord_commands.specs.declared.faults.Fault.TheVariants.{FrameLength, Link, Memory, Seed, Workers}
+use Rattle.mirrord_commands.specs.declared.faults.Fault.TheVariants.{Descriptors, FrameLength, Link, Memory, Seed, Workers}
 use Rattle.mirrord_commands.specs.declared.faults.Failure.{Failure}
 use Rattle.mirrord_commands.specs.declared.faults.Failure.TheVariants.{Stopped, NoFolder, NoSocket}
 
@@ -25,6 +25,7 @@ failure_of end.NoWorkers cause = Some (Stopped Workers)
 abbrev pub failure_after : Result SessionEnd Unserved → (root path : Bor (List ℕ)) → Option Failure
 failure_after (Ok over) root path = failure_of over None
 failure_after (Err unserved.NoFolder) root path = Some (NoFolder root)
+failure_after (Err unserved.NoDescriptors) root path = Some (Stopped Descriptors)
 failure_after (Err unserved.NoSeed) root path = Some (Stopped Seed)
 failure_after (Err unserved.NoSocket) root path = Some (NoSocket path)
 failure_after (Err unserved.Memory) root path = Some (Stopped Memory)

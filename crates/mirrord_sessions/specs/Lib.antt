@@ -6,3 +6,4 @@ pub mod Ends
 pub mod Lines
 pub mod Runs
 pub mod Samples
+pub mod Starts

@@ -56,6 +56,7 @@ Explains old new (fault.Line n) =
     × IfSome old.input (λ xs. (xs ≢ []) × IsErr (decode_of (first_piece 10 xs)))
 Explains old new fault.Link = new.lines ≡ old.lines
 Explains old new fault.Memory = Unit {0}
+Explains old new fault.Descriptors = ⊥
 Explains old new fault.Seed = ⊥
 Explains old new fault.Workers = ⊥
 
@@ -78,6 +79,7 @@ IsOfWriting (fault.FrameLength len) = ⊥
 IsOfWriting (fault.Line n) = ⊥
 IsOfWriting fault.Link = Unit {0}
 IsOfWriting fault.Memory = Unit {0}
+IsOfWriting fault.Descriptors = ⊥
 IsOfWriting fault.Seed = ⊥
 IsOfWriting fault.Workers = ⊥
 

@@ -4,6 +4,7 @@ use Rattle.std.specs.Borrow.{Bor}
 use Rattle.std.specs.Io.KnownBytes.{Appends}
 use Rattle.backing.specs.Calls.{memory_limit}
 use Rattle.backing.specs.Memory.{Memory as MemTree, Gives, memory_tree}
+use Rattle.disk_folder.specs.Gives.{Claims}
 use Rattle.clap.specs.Words.{Text}
 use Rattle.clap.specs.declared.error.kind.ErrorKind.{ErrorKind}
 use Rattle.clap.specs.declared.error.kind.ErrorKind.TheVariants.{OutOfMemory, DisplayHelp, DisplayVersion}
@@ -38,7 +39,8 @@ failed_in m = m.failed
 pub record IsHexServed (sampled : Bool) (postings : ℕ) (old : Hexing) (over : SessionEnd) (new : Hexing) : Type 0 where
   pub tree : MemTree
   pub start : IsStart sampled tree
-  pub known : IsKnownServed (unowned postings) (traffic Receives Sends) (known_calls Gives memory_limit memory_tree failed_in) tree old over new
+  pub left : MemTree
+  pub known : IsKnownServed (unowned postings) (traffic Receives Sends) (known_calls Gives memory_limit memory_tree failed_in) tree left old over new
   pub part : ℕ
   pub written : Appends old.output new.output (lines_in (events_of known.served.run.client.steps) ++ take part (broken_line (events_of known.served.run.client.steps)))
 
@@ -72,10 +74,10 @@ abbrev pub IsEnded : Result SessionEnd Unserved → (root path : Bor Text) → (
 IsEnded ended root path faults faults' status told =
     (status ≡ exit_of (failure_after ended root path)) × Tells (failure_after ended root path) told faults faults'
 
--- A folder is served over standard input and output.
-pub record RunsPipe (root : Bor Text) (terms : Terms) (input output output' faults faults' : Option (List ℕ)) (status : ℕ) (told : Bool) : Type 0 where
+-- A folder of a disk is served over standard input and output.
+pub record RunsPipe {D : Type 0} (disk : Claims D) (root : Bor Text) (terms : Terms) (input output output' faults faults' : Option (List ℕ)) (status : ℕ) (told : Bool) : Type 0 where
   pub ended : Result SessionEnd Unserved
-  pub serves : ServesFolder terms input output ended output'
+  pub serves : ServesFolder disk terms input output ended output'
   pub path : Bor Text
   pub ends : IsEnded ended root path faults faults' status told
 

@@ -43,6 +43,7 @@ pub fn failure_after<'a>(
     match ended {
         Ok(end) => failure_of(end, None),
         Err(Unserved::NoFolder) => Some(Failure::NoFolder { root }),
+        Err(Unserved::NoDescriptors) => Some(Failure::Stopped(Fault::Descriptors)),
         Err(Unserved::NoSeed) => Some(Failure::Stopped(Fault::Seed)),
         Err(Unserved::NoSocket) => Some(Failure::NoSocket { path }),
         Err(Unserved::Memory) => Some(Failure::Stopped(Fault::Memory)),

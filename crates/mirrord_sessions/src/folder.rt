@@ -1,33 +1,38 @@
-//! Serving a folder of the system over a stream.
+//! Serving a folder of a disk over a stream.
 
 ghost use Rattle.std.specs.Prelude.{◌≡◌, ◌≢◌, IfErr, IfOk};
+ghost use Rattle.disk_folder.specs.Gives.{claims};
 ghost use Rattle.mirrord_sessions.specs.Folders.{IsFolderServed, ServesFolder};
-ghost use Rattle.mirrord_sessions.specs.declared.folder.Unserved.TheVariants.{NoSocket};
+ghost use Rattle.mirrord_sessions.specs.declared.folder.Unserved.TheVariants.{NoSeed, NoSocket};
 
-use crate::hosting::serve_alone;
-use backing_folder::{Folder, System};
+use crate::disks::{Disks, not_opened};
+use crate::hosting::{Finished, serve_alone};
+use disk::Disk;
+use disk_folder::Folder;
 use engine::SessionEnd;
 use engine_streams::StreamLink;
-use std::fs::File;
-use std::io;
-use std::io::{ErrorKind, Read, Write};
+use std::hash::RandomState;
+use std::io::{Read, Write};
 use std::random::RandomSource;
-use std::rt::Files;
 use std::sync::Wait;
-use std::time::Clock;
 use table::Seeds;
 use terms::Terms;
+use thiserror::Error;
 
-/// Why nothing was served.
-#[derive(Clone, Copy, Debug, PartialEq, Eq)]
+/// Why nothing was served. No contract names these words: what the programs write is a `Failure`, which has the path too.
+#[derive(Clone, Copy, Debug, PartialEq, Eq, Error)]
 pub enum Unserved {
-    /// The folder cannot be opened.
+    #[error("the folder cannot be opened")]
     NoFolder,
+    /// The system does not let the process reach what it has open by `/proc/self/fd`.
+    #[error("/proc/self/fd cannot be used")]
+    NoDescriptors,
     /// The system gives no random bytes.
+    #[error("no random seed")]
     NoSeed,
-    /// It is not possible to wait for a client at the path.
+    #[error("no client can be awaited at the path")]
     NoSocket,
-    /// Memory was refused.
+    #[error("out of memory")]
     Memory,
 }
 
@@ -40,36 +45,30 @@ pub struct StreamEnd<O: Drop> {
     pub output: O,
 }
 
-/// Why a folder could not be opened.
-fn unopened(error: io::Error) -> Unserved
-    ensures { result ≢ NoSocket }
-{
-    match error.kind() {
-        ErrorKind::OutOfMemory => Unserved::Memory,
-        _ => Unserved::NoFolder,
-    }
+/// A session over a stream that is over.
+#[derive(Drop)]
+pub struct FolderEnd<D: Disk + Drop, O: Drop> {
+    /// How it ended.
+    pub end: SessionEnd,
+    /// The folder, returned.
+    pub folder: Folder<D>,
+    /// The writer of the replies, returned.
+    pub output: O,
 }
 
-/// Opens the folder to be served.
-pub fn open_folder<H: Files<File = File> + Clock + AllocGlobal + Clone + Drop>(
-    rt: &H,
-    root: &str,
-) -> Result<Folder<System<H>>, Unserved>
-    ensures new { IfOk result (λ folder. folder ≡ 0) }
-    ensures why { IfErr result (λ why. why ≢ NoSocket) }
+/// A seed for what is hashed.
+pub fn new_seed<H: RandomSource>(rt: &H) -> Result<RandomState, Unserved>
+    ensures { IfErr result (λ why. why ≡ NoSeed) }
 {
-    let Ok(own) = rt.clone() else {
-        return Err(Unserved::Memory);
-    };
-    match Folder::open(own, root) {
-        Ok(folder) => Ok(folder),
-        Err(error) => Err(unopened(error)),
+    match RandomState::new(rt) {
+        Ok(seed) => Ok(seed),
+        Err(_) => Err(Unserved::NoSeed),
     }
 }
 
 /// Seeds for a new table.
 pub fn new_seeds<H: RandomSource>(rt: &H) -> Result<Seeds, Unserved>
-    ensures { IfErr result (λ why. why ≢ NoSocket) }
+    ensures { IfErr result (λ why. why ≡ NoSeed) }
 {
     match Seeds::new(rt) {
         Ok(seeds) => Ok(seeds),
@@ -77,53 +76,73 @@ pub fn new_seeds<H: RandomSource>(rt: &H) -> Result<Seeds, Unserved>
     }
 }
 
-/// The folder to be served, and seeds for its table.
-pub(crate) fn open_seeded<
-    H: RandomSource + Files<File = File> + Clock + AllocGlobal + Clone + Drop,
->(rt: &H, root: &str) -> Result<(Folder<System<H>>, Seeds), Unserved>
-    ensures new { IfOk result (λ opened. opened.0 ≡ 0) }
+/// Opens the folder to be served.
+pub fn open_folder<H: RandomSource, D: Disk + Drop, P: Disks<Disk = D>>(
+    rt: &H,
+    disks: &P,
+    root: &str,
+) -> Result<Folder<D>, Unserved>
+    ensures new { IfOk result (λ folder. folder.1 ≡ 0) }
     ensures why { IfErr result (λ why. why ≢ NoSocket) }
 {
-    let folder = open_folder(rt, root)?;
+    let seed = new_seed(rt)?;
+    let disk = disks.open(root)?;
+    match Folder::new(disk, disks.capacity(), seed) {
+        Ok(folder) => Ok(folder),
+        Err(error) => Err(not_opened(error)),
+    }
+}
+
+/// The folder to be served, and seeds for its table.
+pub(crate) fn open_seeded<H: RandomSource, D: Disk + Drop, P: Disks<Disk = D>>(
+    rt: &H,
+    disks: &P,
+    root: &str,
+) -> Result<(Folder<D>, Seeds), Unserved>
+    ensures new { IfOk result (λ opened. opened.0.1 ≡ 0) }
+    ensures why { IfErr result (λ why. why ≢ NoSocket) }
+{
+    let folder = open_folder(rt, disks, root)?;
     let seeds = new_seeds(rt)?;
     Ok((folder, seeds))
 }
 
-/// Serves a folder on which no call was made yet.
-pub(crate) fn serve_opened<
-    H: Wait + Files<File = File> + Clock + AllocGlobal + Clone + Drop,
-    I: Read + Drop,
-    O: Write + Drop,
->(
+/// Serves a folder of any disk over a stream.
+pub fn serve_opened<H: Wait + AllocGlobal, D: Disk + Drop, I: Read + Drop, O: Write + Drop>(
     rt: &H,
-    folder: Folder<System<H>>,
+    folder: Folder<D>,
     seeds: Seeds,
     terms: Terms,
     input: I,
     output: O,
-) -> (SessionEnd, O)
-    requires { folder ≡ 0 }
-    ensures { IsFolderServed terms (I.remaining input) (O.contents output) result.0 (O.contents result.1) }
+) -> FolderEnd<D, O>
+    ensures { IsFolderServed (claims D.honest D.tree D.has_set D.has_synced) terms folder result.folder (I.remaining input) (O.contents output) result.end (O.contents result.output) }
 {
     let mut link = StreamLink::new(rt.alloc(), input, output);
-    let end = serve_alone(rt, rt.alloc(), seeds, folder, &mut link, terms);
-    (end, link.into_writer())
+    let Finished { end, calls } = serve_alone(rt, rt.alloc(), seeds, folder, &mut link, terms);
+    FolderEnd {
+        end,
+        folder: calls,
+        output: link.into_writer(),
+    }
 }
 
 /// Serves the folder at `root` to the client that writes `input` and reads `output`, until its session ends.
 pub fn serve_folder<
-    H: Wait + RandomSource + Files<File = File> + Clock + AllocGlobal + Clone + Drop,
+    H: Wait + RandomSource + AllocGlobal,
+    D: Disk + Drop,
+    P: Disks<Disk = D>,
     I: Read + Drop,
     O: Write + Drop,
->(rt: &H, root: &str, terms: Terms, input: I, output: O) -> StreamEnd<O>
-    ensures { ServesFolder terms (I.remaining input) (O.contents output) result.ended (O.contents result.output) }
+>(rt: &H, disks: &P, root: &str, terms: Terms, input: I, output: O) -> StreamEnd<O>
+    ensures { ServesFolder (claims D.honest D.tree D.has_set D.has_synced) terms (I.remaining input) (O.contents output) result.ended (O.contents result.output) }
 {
-    match open_seeded(rt, root) {
+    match open_seeded(rt, disks, root) {
         Ok((folder, seeds)) => {
-            let (end, output) = serve_opened(rt, folder, seeds, terms, input, output);
+            let over = serve_opened(rt, folder, seeds, terms, input, output);
             StreamEnd {
-                ended: Ok(end),
-                output,
+                ended: Ok(over.end),
+                output: over.output,
             }
         }
         Err(why) => StreamEnd {

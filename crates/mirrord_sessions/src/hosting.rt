@@ -15,6 +15,15 @@ use std::sync::Wait;
 use table::{Seeds, Table};
 use terms::Terms;
 
+/// A session that is over.
+#[derive(Drop)]
+pub struct Finished<C: Drop> {
+    /// How it ended.
+    pub end: SessionEnd,
+    /// The directory, returned.
+    pub calls: C,
+}
+
 /// Serves a directory and these open folders over a link, with a table that has one share.
 fn serve_new<H: Wait, T: Ledgers, L: Link, C: Calls + Drop>(
     rt: &H,
@@ -25,15 +34,18 @@ fn serve_new<H: Wait, T: Ledgers, L: Link, C: Calls + Drop>(
     dirs: &Dirs,
     link: &mut L,
     terms: Terms,
-) -> SessionEnd
+) -> Finished<C>
     requires names { blanks ≡ T.names }
     requires shares { T.names.parts ≡ 1 }
     requires limits { dirs.now ≡ folder_limits }
-    ensures { ServesLink terms (traffic L.receives L.sends) C.gives tree link.old result link.new }
+    ensures { ServesLink terms (traffic L.receives L.sends) C.gives tree result.calls link.old result.end link.new }
 {
     let opened = Table::<T>::open(alloc, terms.limits(), seeds, blanks, 1);
     let Ok((mut table, mut shares)) = opened else {
-        return SessionEnd::Memory;
+        return Finished {
+            end: SessionEnd::Memory,
+            calls: tree,
+        };
     };
     let mut share = shares.pop().unwrap();
     shares.destroy_empty();
@@ -48,7 +60,10 @@ fn serve_new<H: Wait, T: Ledgers, L: Link, C: Calls + Drop>(
         terms.settings,
     );
     share.leave();
-    end
+    Finished {
+        end,
+        calls: served.calls,
+    }
 }
 
 /// The same with open folders of its own.
@@ -60,14 +75,17 @@ fn serve_link<H: Wait, T: Ledgers, L: Link, C: Calls + Drop>(
     tree: C,
     link: &mut L,
     terms: Terms,
-) -> SessionEnd
+) -> Finished<C>
     requires names { blanks ≡ T.names }
     requires shares { T.names.parts ≡ 1 }
-    ensures { ServesLink terms (traffic L.receives L.sends) C.gives tree link.old result link.new }
+    ensures { ServesLink terms (traffic L.receives L.sends) C.gives tree result.calls link.old result.end link.new }
 {
     match Dirs::new(alloc) {
         Ok(dirs) => serve_new::<H, T, L, C>(rt, alloc, blanks, seeds, tree, &dirs, link, terms),
-        Err(_) => SessionEnd::Memory,
+        Err(_) => Finished {
+            end: SessionEnd::Memory,
+            calls: tree,
+        },
     }
 }
 
@@ -79,8 +97,8 @@ pub fn serve_alone<H: Wait, L: Link, C: Calls + Drop>(
     tree: C,
     link: &mut L,
     terms: Terms,
-) -> SessionEnd
-    ensures { ServesLink terms (traffic L.receives L.sends) C.gives tree link.old result link.new }
+) -> Finished<C>
+    ensures { ServesLink terms (traffic L.receives L.sends) C.gives tree result.calls link.old result.end link.new }
 {
     serve_link::<H, Brand, L, C>(rt, alloc, Blanks::new(1), seeds, tree, link, terms)
 }
@@ -93,8 +111,8 @@ pub fn serve_known<H: Wait, L: Link, C: KnownTree + Drop>(
     tree: C,
     link: &mut L,
     terms: Terms,
-) -> SessionEnd
-    ensures { ServesKnown terms (traffic L.receives L.sends) (known_calls C.gives C.limit C.tree C.faults) tree link.old result link.new }
+) -> Finished<C>
+    ensures { ServesKnown terms (traffic L.receives L.sends) (known_calls C.gives C.limit C.tree C.faults) tree result.calls link.old result.end link.new }
 {
     serve_alone(rt, alloc, seeds, tree, link, terms)
 }

@@ -1,22 +1,22 @@
 //! The programs `hex` and `pipe`, without their command lines.
 
 ghost use Rattle.std.specs.Prelude.{◌≡◌};
+ghost use Rattle.disk_folder.specs.Gives.{claims};
 ghost use Rattle.mirrord_sessions.specs.Runs.{RunsHex, RunsPipe, RunsSeeded, ServesHex, unowned};
 
+use crate::disks::Disks;
 use crate::ended::{ProgramEnd, failure_after, failure_of, status_after, tell_any};
 use crate::folder::serve_folder;
 use crate::hexadecimal::HexLink;
 use crate::hosting::serve_known;
 use crate::samples::new_tree;
+use disk::Disk;
 use engine::SessionEnd;
 use mirrord_commands::{Failure, Fault, tell};
 use std::alloc::Global;
-use std::fs::File;
 use std::io::{BufRead, Read, Write};
 use std::random::RandomSource;
-use std::rt::Files;
 use std::sync::Wait;
-use std::time::Clock;
 use table::Seeds;
 use terms::{Bounds, Settings, Terms};
 
@@ -47,7 +47,7 @@ fn serve_new<H: Wait, I: BufRead + Drop, O: Write + Drop>(
     let Ok(tree) = new_tree(alloc, sample) else {
         return SessionEnd::Memory;
     };
-    serve_known(rt, alloc, seeds, tree, link, unowned(postings))
+    serve_known(rt, alloc, seeds, tree, link, unowned(postings)).end
 }
 
 /// Serves a tree in memory over hexadecimal lines: the program `hex` without its command line. A period of the ledger
@@ -109,17 +109,34 @@ pub fn run_hex<H: Wait + RandomSource + AllocGlobal, I: BufRead + Drop, O: Write
 /// The name of the input of `pipe`.
 const STANDARD_INPUT: &str = "standard input";
 
+/// What a client writes, and where it reads its replies.
+#[derive(Drop)]
+pub struct Streams<I: Drop, O: Drop> {
+    pub input: I,
+    pub output: O,
+}
+
 /// Serves the folder `root` to the client that writes `input` and reads `output`: the program `pipe` without its
 /// command line.
 pub fn pipe_run<
-    H: Wait + RandomSource + Files<File = File> + Clock + AllocGlobal + Clone + Drop,
+    H: Wait + RandomSource + AllocGlobal,
+    D: Disk + Drop,
+    P: Disks<Disk = D>,
     I: Read + Drop,
     O: Write + Drop,
     F: Write,
->(rt: &H, root: &str, terms: Terms, input: I, output: O, faults: &mut F) -> ProgramEnd<O>
-    ensures { RunsPipe root.entry terms (I.remaining input) (O.contents output) (O.contents result.output) (F.contents faults.old) (F.contents faults.new) result.status result.told }
+>(
+    rt: &H,
+    disks: &P,
+    root: &str,
+    terms: Terms,
+    streams: Streams<I, O>,
+    faults: &mut F,
+) -> ProgramEnd<O>
+    ensures { RunsPipe (claims D.honest D.tree D.has_set D.has_synced) root.entry terms (I.remaining streams.input) (O.contents streams.output) (O.contents result.output) (F.contents faults.old) (F.contents faults.new) result.status result.told }
 {
-    let served = serve_folder(rt, root, terms, input, output);
+    let Streams { input, output } = streams;
+    let served = serve_folder(rt, disks, root, terms, input, output);
     let failure = failure_after(served.ended, root, STANDARD_INPUT);
     ProgramEnd {
         status: status_after(failure),

@@ -1,11 +1,14 @@
-//! Serving a folder of the system over a Unix socket with one thread.
+//! Serving a folder of a disk over a Unix socket with one thread.
 
 ghost use Rattle.std.specs.Prelude.{◌≡◌};
+ghost use Rattle.disk_folder.specs.Gives.{claims};
 ghost use Rattle.mirrord_sessions.specs.Folders.{ServesSocket};
 
+use crate::disks::Disks;
 use crate::folder::{Unserved, open_seeded, serve_opened};
 use crate::socket_file::SocketFile;
-use backing_folder::{Folder, System};
+use disk::Disk;
+use disk_folder::Folder;
 use engine::SessionEnd;
 use engine_streams::{Holding, Polling};
 use std::fs::File;
@@ -15,7 +18,6 @@ use std::os::unix::net::UnixStream;
 use std::random::RandomSource;
 use std::rt::Files;
 use std::sync::Wait;
-use std::time::Clock;
 use table::Seeds;
 use terms::Terms;
 
@@ -23,51 +25,51 @@ use terms::Terms;
 pub const RECEIVED: usize = 131_072;
 
 /// Serves the client at the other end of a socket.
-fn serve_client<H: Wait + Files<File = File> + Clock + AllocGlobal + Clone + Drop>(
+fn serve_client<H: Wait + AllocGlobal, D: Disk + Drop>(
     rt: &H,
-    folder: Folder<System<H>>,
+    folder: Folder<D>,
     seeds: Seeds,
     terms: Terms,
     stream: &UnixStream,
 ) -> Result<SessionEnd, Unserved>
-    requires { folder ≡ 0 }
-    ensures { ServesSocket terms result }
+    requires { folder.1 ≡ 0 }
+    ensures { ServesSocket (claims D.honest D.tree D.has_set D.has_synced) terms result }
 {
     let Ok(input) = BufReader::with_capacity(rt.alloc(), RECEIVED, Polling::new(stream)) else {
         return Err(Unserved::Memory);
     };
     let output = Holding::new(rt.alloc(), stream);
-    let (end, mut output) = serve_opened(rt, folder, seeds, terms, input, output);
+    let mut over = serve_opened(rt, folder, seeds, terms, input, output);
     // Replies can be left only if more came after the DESTROY; the session is over, whatever becomes of them.
-    let _ = output.flush();
-    Ok(end)
+    let _ = over.output.flush();
+    Ok(over.end)
 }
 
 /// Serves the first client that connects.
-fn serve_first<H: Wait + Files<File = File> + Clock + AllocGlobal + Clone + Drop>(
+fn serve_first<H: Wait + AllocGlobal, D: Disk + Drop>(
     rt: &H,
-    folder: Folder<System<H>>,
+    folder: Folder<D>,
     seeds: Seeds,
     terms: Terms,
     place: &SocketFile,
 ) -> Result<SessionEnd, Unserved>
-    requires { folder ≡ 0 }
-    ensures { ServesSocket terms result }
+    requires { folder.1 ≡ 0 }
+    ensures { ServesSocket (claims D.honest D.tree D.has_set D.has_synced) terms result }
 {
     let stream = place.accept()?;
     serve_client(rt, folder, seeds, terms, &stream)
 }
 
 /// Serves the first client that connects to a new socket at `path`, whose file is removed afterwards.
-fn serve_at<H: Wait + Net + Files<File = File> + Clock + AllocGlobal + Clone + Drop>(
+fn serve_at<H: Wait + Net + Files<File = File> + AllocGlobal, D: Disk + Drop>(
     rt: &H,
-    folder: Folder<System<H>>,
+    folder: Folder<D>,
     seeds: Seeds,
     terms: Terms,
     path: &str,
 ) -> Result<SessionEnd, Unserved>
-    requires { folder ≡ 0 }
-    ensures { ServesSocket terms result }
+    requires { folder.1 ≡ 0 }
+    ensures { ServesSocket (claims D.honest D.tree D.has_set D.has_synced) terms result }
 {
     let place = SocketFile::new(rt, path)?;
     let ended = serve_first(rt, folder, seeds, terms, &place);
@@ -78,11 +80,13 @@ fn serve_at<H: Wait + Net + Files<File = File> + Clock + AllocGlobal + Clone + D
 /// Serves the folder at `root` to the first client that connects to a new socket at `path`, until its session ends. The
 /// socket's file is removed afterwards, unless something else has taken its place.
 pub fn serve_socket<
-    H: Wait + Net + RandomSource + Files<File = File> + Clock + AllocGlobal + Clone + Drop,
->(rt: &H, root: &str, path: &str, terms: Terms) -> Result<SessionEnd, Unserved>
-    ensures { ServesSocket terms result }
+    H: Wait + Net + RandomSource + Files<File = File> + AllocGlobal,
+    D: Disk + Drop,
+    P: Disks<Disk = D>,
+>(rt: &H, disks: &P, root: &str, path: &str, terms: Terms) -> Result<SessionEnd, Unserved>
+    ensures { ServesSocket (claims D.honest D.tree D.has_set D.has_synced) terms result }
 {
     // The folder is opened before the socket is made, so that a bad folder leaves no file.
-    let (folder, seeds) = open_seeded(rt, root)?;
+    let (folder, seeds) = open_seeded(rt, disks, root)?;
     serve_at(rt, folder, seeds, terms, path)
 }

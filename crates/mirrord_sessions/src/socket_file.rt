@@ -1,5 +1,10 @@
 //! The socket at which one client is awaited.
 
+ghost use Rattle.std.specs.Prelude.{◌≡◌, Decides, IfErr, IsSome};
+ghost use Rattle.std.specs.IoError.{error_kind};
+ghost use Rattle.std.specs.declared.io.ErrorKind.{ErrorKind};
+ghost use Rattle.mirrord_sessions.specs.Starts.{unheard_by};
+
 use crate::folder::Unserved;
 use std::fs::File;
 use std::io::ErrorKind;
@@ -10,7 +15,9 @@ use std::rt::Files;
 use std::{fs, io};
 
 /// Why no client can be awaited.
-fn unheard(error: io::Error) -> Unserved {
+fn unheard(error: io::Error) -> Unserved
+    ensures { result ≡ unheard_by (error_kind error) }
+{
     match error.kind() {
         ErrorKind::OutOfMemory => Unserved::Memory,
         _ => Unserved::NoSocket,
@@ -37,7 +44,9 @@ impl SocketFile {
     pub fn new<H: Net + Files<File = File> + AllocGlobal>(
         rt: &H,
         path: &str,
-    ) -> Result<SocketFile, Unserved> {
+    ) -> Result<SocketFile, Unserved>
+        ensures { IfErr result (λ why. (kind : ErrorKind) × (why ≡ unheard_by kind)) }
+    {
         match UnixListener::bind(rt, path) {
             Ok(listener) => Ok(SocketFile {
                 listener,
@@ -48,16 +57,26 @@ impl SocketFile {
     }
 
     /// Waits for one client.
-    pub fn accept(&self) -> Result<UnixStream, Unserved> {
+    pub fn accept(&self) -> Result<UnixStream, Unserved>
+        ensures { IfErr result (λ why. (kind : ErrorKind) × (why ≡ unheard_by kind)) }
+    {
         match self.listener.accept() {
             Ok((stream, _)) => Ok(stream),
             Err(error) => Err(unheard(error)),
         }
     }
 
-    /// Removes the file that was created at `path`, if it is still the one there. If that fails, the file remains.
+    /// Whether what was found is the file that was created. If that could not be looked at, nothing is.
+    fn is_own(&self, found: Option<(u64, u64)>) -> bool
+        ensures { Decides result (IsSome self.now.made × (found ≡ self.now.made)) }
+    {
+        self.made.is_some() && found == self.made
+    }
+
+    /// Removes the file that was created at `path`, if it is still the one there: whatever else is there stays. If that
+    /// fails, the file remains.
     pub fn remove<R: Files<File = File> + AllocGlobal>(&self, rt: &R, path: &str) {
-        if self.made.is_some() && identity_of(rt, path) == self.made {
+        if self.is_own(identity_of(rt, path)) {
             let _ = fs::remove_file(rt, path);
         }
     }

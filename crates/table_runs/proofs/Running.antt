@@ -1,177 +1,39 @@
 -- What any call does to the pending tickets, and what all calls of a run do together.
-use Rattle.std.proofs.Common.{ℕ, ◌+◌, ◌<◌, ◌≡◌, ◌≢◌, ◌==◌, ◌⊎◌, suc, Bool, List, [], ◌∷◌, ◌++◌, append_assoc, Option, Some, None, All, AllPairs, Contains, length, drop, take, get_or, refl, sym, ap, ◌∙◌, subst, inl, inr, arith}
+use Rattle.std.proofs.Common.{ℕ, ◌+◌, ◌<◌, ◌≡◌, ◌≢◌, suc, List, [], ◌∷◌, ◌++◌, append_assoc, All, AllPairs, length, drop, take, get_or, refl, sym, ap, ◌∙◌, subst, inl, inr, arith}
 use Rattle.std.specs.List.{remove}
-use Rattle.std.proofs.lemmas.Bool.{cases_Bool, cases_eq, cases_lt, cond-false, cond-true, eq-eqb, ne_eqb}
-use Rattle.std.proofs.lemmas.Option.{none-some, same_Some}
+use Rattle.std.proofs.lemmas.Bool.{cases_lt}
+use Rattle.std.proofs.lemmas.Option.{none-some}
 use Rattle.std.proofs.lemmas.List.Edits.{length-remove, get_or-remove_above, get_or-remove_below}
-use Rattle.std.proofs.lemmas.List.Elements.{All-contains, All-from_get_or, All-get_or, All-push, All-weaker}
+use Rattle.std.proofs.lemmas.List.Elements.{All-from_get_or, All-get_or, All-push, All-weaker}
 use Rattle.std.proofs.lemmas.List.Quantifiers.{all_pairs_push, all_pairs_remove}
 use Rattle.std.proofs.Math.Seq.{drop-append_seam, take-append_seam}
 use Rattle.ledger.specs.Shares.{Part}
-use Rattle.paths.specs.Prefixes.{Names}
-use Rattle.holds.specs.declared.held.Held.{Held}
-use Rattle.holds.specs.declared.held.GivenPath.{GivenPath}
-use Rattle.tree.specs.Places.{Lookup, IsPathOf, IsTree}
-use Rattle.tree.proofs.Climbing.{path_same}
-use Rattle.tree.proofs.LookupLemmas.{cases_option}
 use Rattle.table_requests.specs.declared.data.Want.{Want}
-use Rattle.table_footprints.specs.Asked.{ArePaths, HasPath, Holds}
-use Rattle.table_footprints.specs.Laws.{IsGrounded, base_of}
-use Rattle.table_footprints.specs.Footprints.{AtName, AtNode, Footprint, Location}
-use Rattle.table_footprints.proofs.Members.{first_in, in_map, later_in}
-use Rattle.table_footprints.proofs.FootprintLemmas.{are_grounded}
+use Rattle.table_steps.specs.declared.data.Begin.TheVariants.{Go}
 use Rattle.table_steps.specs.declared.data.Outcome.{Outcome}
-use Rattle.table_steps.specs.Answers.{Answer, Claim, Settlement}
-use Rattle.table_steps.specs.Steps.{ClosesPeriod, Finishes, Forgets, IsTicket, Settles}
-use Rattle.table.specs.Renewing.{FinishesAnew, ForgetsAnew, SettlesAnew}
-use Rattle.table.proofs.Closing.{flights_renewed}
-use Rattle.table_steps.specs.World.{Answered, RequestInFlight, RequestsInFlight, IsAtWork, IsLawfulWorld, Stage, Work, Working, World, with_entry}
+use Rattle.table_steps.specs.World.{IsLawfulWorld, World}
 use Rattle.table.specs.Gains.{GainsInAll}
 use Rattle.table.proofs.Gaining.{gains_in_all, gains_same, in_all_on}
+use Rattle.table_shared.specs.Current.{IsCurrent}
+use Rattle.table_shared.proofs.Current.{begun_current, current_kept}
+use Rattle.table_shared.proofs.Staying.{StaysAtWork, begins_stays, closes_stays, finishes_anew, forgets_anew, settles_anew}
 use Rattle.table_runs.specs.declared.calls.TableCall.{TableCall}
 use Rattle.table_runs.specs.declared.calls.TableCall.TheVariants as call
 use Rattle.table_runs.specs.declared.calls.CallResult.{CallResult}
 use Rattle.table_runs.specs.declared.calls.CallResult.TheVariants as told
 use Rattle.table_runs.specs.declared.pending.Started.{Started}
 use Rattle.table_runs.specs.Outstanding.{Outstanding}
-use Rattle.table_runs.specs.Runs.{ChangesNothing, IsCurrent, IsCurrentAt, IsStep, NotBoth, PutsTicket, Runs, SpendsTicket}
-
--- ---- one ticket
-
--- a request for the same want holds the same paths before and after, so the paths of its locations are the same
-module _ (old new : Lookup) (tree : IsTree old) (d : Footprint) (held : Held) (was : Holds old d held) (is : Holds new d held) where
-  given_path : (n : ℕ) → Contains d.given n → (q : Names) → IsPathOf old n q → IsPathOf new n q
-  given_path n given q leads =
-      let it = in_map (λ (lead : GivenPath). lead.number) held.given n (subst (λ ns. Contains ns n) (sym was.numbers) given) in
-      let before : IsPathOf old it.0.number it.0.path = All-contains (λ (lead : GivenPath). IsPathOf old lead.number lead.path) held.given it.0 was.leads it.1 in
-      let after : IsPathOf new it.0.number it.0.path = All-contains (λ (lead : GivenPath). IsPathOf new lead.number lead.path) held.given it.0 is.leads it.1 in
-      let same : it.0.path ≡ q = path_same old tree.rooted it.0.path q n (subst (λ k. IsPathOf old k it.0.path) it.2 before) leads in
-      subst (λ p. IsPathOf new n p) same (subst (λ k. IsPathOf new k it.0.path) it.2 after)
-
-  location_path : (l : Location) → Contains d.given (base_of l) → (q : Names) → HasPath old l q → HasPath new l q
-  location_path (AtNode n) given q leads = given_path n given q leads
-  location_path (AtName parent name) given q it = record { above = it.above; leads = given_path parent given it.above it.leads; whole = it.whole }
-
-  pub paths_kept : (ls : List Location) → ((l : Location) → Contains ls l → Contains d.given (base_of l)) → (paths : List Names) → ArePaths old ls paths → ArePaths new ls paths
-  paths_kept [] given paths none = none
-  paths_kept (l ∷ ls) given paths (path, rest, spelt, leads, more) =
-      (path, rest, spelt, location_path l (given l (first_in l ls)) path leads, paths_kept ls (λ m h. given m (later_in l ls m h)) rest more)
-
-  pub ticket_kept : IsGrounded d → (ticket : Claim) → IsTicket old d ticket → IsTicket new d ticket
-  ticket_kept footprint ticket it = record {
-    paths = paths_kept d.paths footprint.paths ticket.paths it.paths;
-    same = it.same;
-    hide = it.hide;
-    last = it.last;
-  }
-
--- the request with that id is in progress as before
-abbrev pub StaysAtWork : World → World → ℕ → Type 0
-StaysAtWork old new id = (f : RequestInFlight) (work : Work) → IsAtWork old.flights id f work → new.flights id ≡ Some f
-
-pub current_kept : (old new : World) (s : Started) → IsLawfulWorld old → IsLawfulWorld new → StaysAtWork old new s.ticket.id → IsCurrent old s → IsCurrent new s
-current_kept old new s was is stays c =
-    let here : IsAtWork new.flights s.ticket.id c.flight c.work = record { here = stays c.flight c.work c.here; working = c.here.working } in
-    let before = was.ready s.ticket.id c.flight c.work c.here in
-    let after = is.ready s.ticket.id c.flight c.work here in
-    let footprint : IsGrounded c.work.footprint = subst (λ (d : Footprint). IsGrounded d) (sym before.footprint) (are_grounded c.work.want before.case) in
-    record {
-      flight = c.flight;
-      work = c.work;
-      here = here;
-      want_is = c.want_is;
-      ticket = ticket_kept old.at new.at was.law.tree c.work.footprint c.work.held before.holds after.holds footprint s.ticket c.ticket;
-    }
-
--- ---- requests that are still in progress after a step
-
-entry_same : (at : RequestsInFlight) (id : ℕ) (x : Option RequestInFlight) → with_entry at id x id ≡ x
-entry_same at id x = cond-true (id == id) x (at id) (eq-eqb id id refl)
-
-entry_other : (at : RequestsInFlight) (id : ℕ) (x : Option RequestInFlight) (k : ℕ) → id ≢ k → with_entry at id x k ≡ at k
-entry_other at id x k ne = cond-false (id == k) x (at k) (ne_eqb id k ne)
-
-stays_same : (old new : World) (id : ℕ) → new ≡ old → StaysAtWork old new id
-stays_same old new id e f work it = ap (λ (w : World). w.flights id) e ∙ it.here
-
-cases_flight : (o : Option RequestInFlight) → (o ≡ None) ⊎ ((f : RequestInFlight) × (o ≡ Some f))
-cases_flight None = inl refl
-cases_flight (Some f) = inr (f, refl)
-
-cases_stage : (s : Stage) → ((before : ℕ) × (opened : Option ℕ) × (s ≡ Answered before opened)) ⊎ ((work : Work) × (s ≡ Working work))
-cases_stage (Answered before opened) = inl (before, opened, refl)
-cases_stage (Working work) = inr (work, refl)
-
-idle_or_not : (flights : RequestsInFlight) (id : ℕ) → ((f : RequestInFlight) (work : Work) → IsAtWork flights id f work → ⊥) ⊎ ((f : RequestInFlight) × ((work : Work) × IsAtWork flights id f work))
-idle_or_not flights id = elim (cases_flight (flights id)) [
-  | inl none ↦ inl (λ f work it. none-some f (sym none ∙ it.here))
-  | inr (g, here) ↦ elim (cases_stage g.stage) [
-    | inl (before, opened, idle) ↦ inl (λ f work it.
-        let one : g ≡ f = same_Some g f (sym here ∙ it.here) in
-        let bad : Answered before opened ≡ Working work = sym idle ∙ (ap (λ (x : RequestInFlight). x.stage) one ∙ it.working) in absurd (cc))
-    | inr (work, working) ↦ inr (g, (work, record { here = here; working = working }))
-  ]
-]
-
-finishes_other : (old : World) (id : ℕ) (o : Outcome) (answer : Answer) (new : World) → Finishes old id o answer new → (k : ℕ) → id ≢ k → StaysAtWork old new k
-finishes_other old id o answer new fin k ne f work it = elim (idle_or_not old.flights id) [
-  | inl idle ↦ stays_same old new k (fin.lost idle).1 f work it
-  | inr (g, (w, at)) ↦ ap (λ (x : World). x.flights k) (fin.found g w at).new_is ∙ (entry_other old.flights id _ k ne ∙ it.here)
-]
-
-settles_stays : (old : World) (answer : Answer) (taken : Bool) (settled : Settlement) (new : World) → Settles old answer taken settled new → (k : ℕ) → StaysAtWork old new k
-settles_stays old answer taken settled new s k f work it = elim (cases_Bool answer.lost) [
-  | inl gone ↦ stays_same old new k (s.lost gone) f work it
-  | inr held ↦ elim (cases_flight (old.flights answer.id)) [
-    | inl none ↦ stays_same old new k (s.unknown (λ a. none-some a.flight (sym none ∙ a.here))) f work it
-    | inr (g, there) ↦ elim (cases_stage g.stage) [
-      | inl (before, opened, idle) ↦
-          let e = s.found held (record { flight = g; here = there; before = before; opened = opened; ended = idle }) in
-          let ne : answer.id ≢ k = λ same.
-          let one : g ≡ f = same_Some g f (sym there ∙ (ap old.flights same ∙ it.here)) in
-          let bad : Answered before opened ≡ Working work = sym idle ∙ (ap (λ (x : RequestInFlight). x.stage) one ∙ it.working) in absurd (cc) in
-          ap (λ (x : World). x.flights k) e.new_is ∙ (entry_other old.flights answer.id None k ne ∙ it.here)
-      | inr (busy, working) ↦ stays_same old new k (s.unknown (λ a.
-          let one : g ≡ a.flight = same_Some g a.flight (sym there ∙ a.here) in
-          let bad : Working busy ≡ Answered a.before a.opened = sym working ∙ (ap (λ (x : RequestInFlight). x.stage) one ∙ a.ended) in absurd (cc))) f work it
-    ]
-  ]
-]
-
-forgets_stays : (old : World) (number n amount : ℕ) (new : World) → Forgets old number n amount new → (k : ℕ) → StaysAtWork old new k
-forgets_stays old number n amount new h k f work it = elim (cases_eq amount 0) [
-  | inl none ↦ stays_same old new k (h.nothing none) f work it
-  | inr some ↦ elim (cases_option (old.at number)) [
-    | inl gone ↦ absurd (some (h.unknown gone))
-    | inr (x, stood) ↦ ap (λ (w : World). w.flights k) (h.something x stood (omega arith)).new_is ∙ it.here
-  ]
-]
-
--- a period that ends first affects none of them
-after_renewed : (old mid new : World) → ((id : ℕ) → mid.flights id ≡ old.flights id) → (k : ℕ) → StaysAtWork mid new k → StaysAtWork old new k
-after_renewed old mid new same k stays f work it = stays f work (record { here = same k ∙ it.here; working = it.working })
-
-finishes_anew : (old : World) (id : ℕ) (o : Outcome) (answer : Answer) (new : World) → FinishesAnew old id o answer new → (k : ℕ) → id ≢ k → StaysAtWork old new k
-finishes_anew old id o answer new fin k ne = after_renewed old fin.renewed new (flights_renewed old fin.renewed fin.room) k (finishes_other fin.renewed id o answer new fin.finishes k ne)
-
-settles_anew : (old : World) (answer : Answer) (taken : Bool) (settled : Settlement) (new : World) → SettlesAnew old answer taken settled new → (k : ℕ) → StaysAtWork old new k
-settles_anew old answer taken settled new s k = after_renewed old s.renewed new (flights_renewed old s.renewed s.room) k (settles_stays s.renewed answer taken settled new s.settles k)
-
-forgets_anew : (old : World) (number n amount : ℕ) (new : World) → ForgetsAnew old number n amount new → (k : ℕ) → StaysAtWork old new k
-forgets_anew old number n amount new h k = after_renewed old h.renewed new (flights_renewed old h.renewed h.room) k (forgets_stays h.renewed number n amount new h.forgets k)
-
-closes_stays : (old : World) (fewer : ℕ) (new : World) → ClosesPeriod old fewer new → (k : ℕ) → StaysAtWork old new k
-closes_stays old fewer new closes k f work it = ap (λ (w : World). w.flights k) closes.new_is ∙ it.here
+use Rattle.table_runs.specs.Runs.{ChangesNothing, IsCurrentAt, IsStep, NotBoth, PutsTicket, Runs, SpendsTicket}
 
 -- ---- one call
 
 -- the ticket with that id, if there is one, is current
 abbrev pub IsIfBorne : World → ℕ → Started → Type 0
-IsIfBorne w id s = s.ticket.id ≡ id → IsCurrent w s
+IsIfBorne w id s = s.ticket.id ≡ id → IsCurrent w s.want s.ticket
 
 all_kept : (old new : World) (id : ℕ) (ss : List Started) → IsLawfulWorld old → IsLawfulWorld new → StaysAtWork old new id → All (IsIfBorne old id) ss → All (IsIfBorne new id) ss
 all_kept old new id ss was is stays current =
-    All-weaker (IsIfBorne old id) (IsIfBorne new id) (λ s c e. current_kept old new s was is (subst (λ k. StaysAtWork old new k) (sym e) stays) (c e)) ss current
+    All-weaker (IsIfBorne old id) (IsIfBorne new id) (λ s c e. current_kept old new s.want s.ticket was is (subst (λ k. StaysAtWork old new k) (sym e) stays) (c e)) ss current
 
 pub current_same : (old new : World) (hand hand' : Outstanding) → new ≡ old → hand' ≡ hand → (id : ℕ) → IsCurrentAt old hand id → IsCurrentAt new hand' id
 current_same old new hand hand' world hand_is id current =
@@ -181,21 +43,8 @@ current_begin : (old : World) (hand : Outstanding) (unique : ℕ) (want : Want) 
 current_begin old hand unique want new hand' was is puts id current =
     let s : Started = record { ticket = puts.ticket; want = want } in
     let goes = puts.begins.begins.1 in
-    let own = puts.ticket.id in
-    let stays : StaysAtWork old new id = λ f work it.
-    let ne : own ≢ id = λ same. none-some f (sym goes.fresh ∙ (ap old.flights same ∙ it.here)) in
-    ap (λ (w : World). w.flights id) goes.new_is ∙ (entry_other old.flights own _ id ne ∙ it.here) in
-    let work : Work = record { want = want; footprint = puts.begins.footprint; held = goes.held } in
-    let flight : RequestInFlight = record { unique = unique; stage = Working work; pins = goes.pins } in
-    let here : IsAtWork new.flights own flight work = record { here = ap (λ (w : World). w.flights own) goes.new_is ∙ entry_same old.flights own (Some flight); working = refl } in
-    let footprint : IsGrounded work.footprint = subst (λ (d : Footprint). IsGrounded d) (sym puts.begins.footprint_is.footprint) (are_grounded want puts.begins.footprint_is.case) in
-    let one : IsCurrent new s = record {
-      flight = flight;
-      work = work;
-      here = here;
-      want_is = refl;
-      ticket = ticket_kept old.at new.at was.law.tree work.footprint goes.held goes.holds (is.ready own flight work here).holds footprint puts.ticket goes.ticket_is;
-    } in
+    let stays = begins_stays old unique want (Go puts.ticket) new puts.begins id in
+    let one = begun_current old unique want puts.ticket new was.law.tree is puts.begins in
     let once : (k : ℕ) (d : Started) → k < length hand.tickets → NotBoth id (get_or hand.tickets k d) s = λ k d within borne same.
     let c = All-get_or (IsIfBorne old id) hand.tickets k d within current.current borne in
     none-some c.flight (sym goes.fresh ∙ (ap old.flights (same ∙ sym borne) ∙ c.here.here)) in
@@ -206,7 +55,7 @@ current_begin old hand unique want new hand' was is puts id current =
 
 -- one that remains when another is used up
 abbrev pub IsLeft : World → ℕ → Started → Started → Type 0
-IsLeft w id s c = c.ticket.id ≡ id → IsCurrent w c × (s.ticket.id ≢ id)
+IsLeft w id s c = c.ticket.id ≡ id → IsCurrent w c.want c.ticket × (s.ticket.id ≢ id)
 
 -- the others that are pending when one is used up
 others : (w : World) (id : ℕ) (ss : List Started) (place : ℕ) (s : Started) → place < length ss → get_or ss place s ≡ s → AllPairs (NotBoth id) ss → All (IsIfBorne w id) ss → All (IsLeft w id s) (remove ss place)
@@ -229,7 +78,7 @@ current_finish old hand place o new hand' was is spends id current =
     let other = finishes_anew old s.ticket.id o spends.answer new spends.finishes in
     subst (λ h. IsCurrentAt new h id) (sym spends.hand_is) (record {
       once = all_pairs_remove (NotBoth id) hand.tickets place spends.within current.once;
-      current = All-weaker (IsLeft old id s) (IsIfBorne new id) (λ c it borne. current_kept old new c was is (other c.ticket.id (λ same. (it borne).1 (same ∙ borne))) (it borne).0) (remove hand.tickets place) left;
+      current = All-weaker (IsLeft old id s) (IsIfBorne new id) (λ c it borne. current_kept old new c.want c.ticket was is (other c.ticket.id (λ same. (it borne).1 (same ∙ borne))) (it borne).0) (remove hand.tickets place) left;
     })
 
 same_tickets : (old new : World) (hand hand' : Outstanding) → IsLawfulWorld old → IsLawfulWorld new → ((k : ℕ) → StaysAtWork old new k) → hand'.tickets ≡ hand.tickets → (id : ℕ) → IsCurrentAt old hand id → IsCurrentAt new hand' id

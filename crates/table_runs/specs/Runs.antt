@@ -6,8 +6,9 @@ use Rattle.table_steps.specs.declared.data.Begin.TheVariants as begin
 use Rattle.table_steps.specs.declared.data.Outcome.{Outcome}
 use Rattle.table_steps.specs.Answers.{Answer, Claim, Settlement}
 use Rattle.table.specs.Renewing.{FinishesAnew, ForgetsAnew, SettlesAnew}
-use Rattle.table_steps.specs.Steps.{Begins, ClosesPeriod, IsTicket}
-use Rattle.table_steps.specs.World.{RequestInFlight, IsAtWork, IsLawfulWorld, Work, World}
+use Rattle.table_steps.specs.Steps.{Begins, ClosesPeriod}
+use Rattle.table_steps.specs.World.{IsLawfulWorld, World}
+use Rattle.table_shared.specs.Current.{IsCurrent}
 use Rattle.table_runs.specs.declared.calls.TableCall.{TableCall}
 use Rattle.table_runs.specs.declared.calls.TableCall.TheVariants as call
 use Rattle.table_runs.specs.declared.calls.CallResult.{CallResult}
@@ -17,15 +18,6 @@ use Rattle.table_runs.specs.Outstanding.{Outstanding}
 
 -- ---- tickets
 
--- a request for that want is in progress with the ticket's id, and the ticket has what its footprint says, with the
--- current paths
-pub record IsCurrent (w : World) (s : Started) : Type 0 where
-  pub flight : RequestInFlight
-  pub work : Work
-  pub here : IsAtWork w.flights s.ticket.id flight work
-  pub want_is : work.want ≡ s.want
-  pub ticket : IsTicket w.at work.footprint s.ticket
-
 -- the two tickets do not both have the id
 abbrev pub NotBoth : ℕ → Started → Started → Type 0
 NotBoth id s t = s.ticket.id ≡ id → t.ticket.id ≢ id
@@ -33,7 +25,7 @@ NotBoth id s t = s.ticket.id ≡ id → t.ticket.id ≢ id
 -- at most one pending ticket has the id, and if one has it, it is current. The others may be of another table
 pub record IsCurrentAt (w : World) (hand : Outstanding) (id : ℕ) : Type 0 where
   pub once : AllPairs (NotBoth id) hand.tickets
-  pub current : All (λ s. s.ticket.id ≡ id → IsCurrent w s) hand.tickets
+  pub current : All (λ s. s.ticket.id ≡ id → IsCurrent w s.want s.ticket) hand.tickets
 
 -- ---- one call
 

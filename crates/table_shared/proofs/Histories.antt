@@ -2,10 +2,15 @@
 use Rattle.std.proofs.Common.{ℕ, ◌≡◌, ◌==◌, Bool, true, false, List, [], ◌∷◌, ◌++◌, refl, ap, sym, ◌∙◌, append_assoc}
 use Rattle.std.proofs.lemmas.List.{append-nil}
 use Rattle.shared_history.specs.Views.{own, own_if}
-use Rattle.table_steps.specs.World.{World}
-use Rattle.table_shared.specs.Histories.{IsHistory, calls_by, calls_if, calls_of, history_of, last_world, unless_busy}
+use Rattle.table_steps.specs.World.{IsLawfulWorld, World}
+use Rattle.table_shared.specs.Histories.{IsHistory, Made, calls_by, calls_if, calls_of, history_of, last_world, unless_busy}
 use Rattle.table_shared.specs.Runs.{Call, IsRun, Log, after, call_in, call_of, end_of}
 use Rattle.table_shared.specs.declared.entries.LogEntry.{LogEntry}
+
+-- the world from which it starts is lawful
+pub history_start : (start : World) (history : List Made) → IsHistory start history → IsLawfulWorld start
+history_start start [] run = run
+history_start start (made ∷ history) run = run.0
 
 module _ {L : Type 0} where
   pub history_run : (start : World) (log : Log L) → IsRun start log → IsHistory start (history_of log)

@@ -1,8 +1,7 @@
 -- How many entries a step posts.
-use Rattle.std.proofs.Common.{ℕ, ◌≡◌, ◌+◌, Bool, true, false, List, [], ◌∷◌, ◌++◌, drop, Option, Some, None, inl, inr, ◌⊎◌, is_some, refl, sym, ap, ◌∙◌, arith}
-use Rattle.std.proofs.lemmas.List.Sums.{sum_by-append, sum_by-cons}
+use Rattle.std.proofs.Common.{ℕ, ◌≡◌, ◌+◌, Bool, true, false, List, [], ◌∷◌, drop, Option, Some, None, inl, inr, ◌⊎◌, is_some, refl, ap, ◌∙◌, arith}
+use Rattle.std.proofs.lemmas.List.Sums.{sum_by-cons}
 use Rattle.std.proofs.lemmas.Bool.{cases_eq}
-use Rattle.std.proofs.lemmas.Option.{none-some}
 use Rattle.std.specs.Prelude.{cond}
 use Rattle.table_requests.specs.declared.data.Given.{Given}
 use Rattle.ledger.specs.declared.postings.Posting.{Posting}
@@ -20,9 +19,10 @@ use Rattle.table_steps.specs.Entries.{Enters, TakesAllBack, untaken_of}
 use Rattle.table.specs.Gains.{GainsInAll}
 use Rattle.table.specs.Renewing.{FinishesAnew, ForgetsAnew, SettlesAnew}
 use Rattle.table.proofs.Closing.{totals_renewed}
-use Rattle.table_steps.specs.Steps.{EntersAll, IsAnswered, Finishes, MakesRoom, Settles, Forgets, act_of}
-use Rattle.table_steps.specs.World.{most_posted, Answered, RequestInFlight, RequestsInFlight, IsAtWork, Stage, Work, Working, World}
+use Rattle.table_steps.specs.Steps.{EntersAll, Finishes, MakesRoom, Settles, Forgets, act_of}
+use Rattle.table_steps.specs.World.{most_posted, RequestsInFlight, World}
 use Rattle.table_steps.specs.declared.data.Outcome.{Outcome}
+use Rattle.table_shared.proofs.Staying.{answered_or, at_work}
 
 abbrev pub listed : Periods → ℕ
 listed ps = (totals_over ps).entries
@@ -63,14 +63,6 @@ enters_all flights at at' ps ps' (key ∷ keys) [] given h = absurd h
 enters_all flights at at' ps ps' (key ∷ keys) (true ∷ found) [] h = absurd h
 enters_all flights at at' ps ps' (key ∷ keys) (false ∷ found) [] h = absurd h
 
--- some request is in progress, or none is
-at_work : (flights : RequestsInFlight) (id : ℕ) (o : Option RequestInFlight) → flights id ≡ o → ((f : RequestInFlight) (work : Work) → IsAtWork flights id f work → ⊥) ⊎ ((f : RequestInFlight) × (work : Work) × IsAtWork flights id f work)
-at_work flights id None e = inl (λ f work w. absurd (none-some f (sym e ∙ w.here)))
-at_work flights id (Some f) e = by_stage f.stage refl where
-  by_stage : (s : Stage) → f.stage ≡ s → ((f' : RequestInFlight) (work : Work) → IsAtWork flights id f' work → ⊥) ⊎ ((f' : RequestInFlight) × (work : Work) × IsAtWork flights id f' work)
-  by_stage (Working work) s = inr (f, work, record { here = e; working = s })
-  by_stage (Answered before opened) s = inl (λ f' work w. let h = w.here in let k = w.working in absurd cc)
-
 finished_lists : (old new : World) (id : ℕ) (outcome : Outcome) (answer : Answer) → Finishes old id outcome answer new → listed new.postings ≡ listed old.postings + entries_in answer.given
 finished_lists old new id outcome answer finishes = elim (at_work old.flights id (old.flights id) refl) [
   | inl none ↦ (let lost = finishes.lost none in let p : listed new.postings ≡ listed old.postings = ap (λ (w : World). listed w.postings) lost.1 in let e : entries_in answer.given ≡ 0 = ap (λ (a : Answer). entries_in a.given) lost.0 in omega arith)
@@ -87,7 +79,7 @@ backs_all at at' ps ps' (n ∷ ns) (mid, qs, inr none, rest) = backs_all mid at'
 settled_lists : (old new : World) (answer : Answer) (taken : Bool) (settled : Settlement) → Settles old answer taken settled new → listed new.postings ≡ listed old.postings
 settled_lists old new answer taken settled s = elim (cases_eq_bool answer.lost) [
   | inl lost ↦ ap (λ (w : World). listed w.postings) (s.lost lost)
-  | inr kept ↦ elim (answered_or (old.flights answer.id) refl) [
+  | inr kept ↦ elim (answered_or old.flights answer.id (old.flights answer.id) refl) [
     | inl unknown ↦ ap (λ (w : World). listed w.postings) (s.unknown unknown)
     | inr known ↦ (let e = s.found kept known in backs_all old.at e.mid old.postings new.postings (untaken_of taken (drop known.before known.flight.pins)) e.back)
   ]
@@ -95,13 +87,6 @@ settled_lists old new answer taken settled s = elim (cases_eq_bool answer.lost) 
   cases_eq_bool : (b : Bool) → (b ≡ true) ⊎ (b ≡ false)
   cases_eq_bool true = inl refl
   cases_eq_bool false = inr refl
-
-  answered_or : (o : Option RequestInFlight) → old.flights answer.id ≡ o → (IsAnswered old.flights answer.id → ⊥) ⊎ IsAnswered old.flights answer.id
-  answered_or None e = inl (λ k. absurd (none-some k.flight (sym e ∙ k.here)))
-  answered_or (Some f) e = by_stage f.stage refl where
-    by_stage : (st : Stage) → f.stage ≡ st → (IsAnswered old.flights answer.id → ⊥) ⊎ IsAnswered old.flights answer.id
-    by_stage (Answered before opened) is = inr (record { flight = f; here = e; before = before; opened = opened; ended = is })
-    by_stage (Working work) is = inl (λ k. let h = k.here in let m = k.ended in absurd cc)
 
 forgot_lists : (old new : World) (number n amount : ℕ) → Forgets old number n amount new → listed new.postings ≡ listed old.postings
 forgot_lists old new number n amount h = elim (cases_eq amount 0) [

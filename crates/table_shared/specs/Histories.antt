@@ -1,5 +1,5 @@
 -- What threads did on one table, call by call.
-use Rattle.std.specs.Prelude.{ℕ, ◌≡◌, ◌==◌, Bool, true, false, List, [], ◌∷◌, ◌++◌, map}
+use Rattle.std.specs.Prelude.{ℕ, ◌==◌, Bool, true, false, List, [], ◌∷◌, ◌++◌, map}
 use Rattle.table_steps.specs.declared.data.Begin.TheVariants as begin
 use Rattle.table_steps.specs.World.{IsLawfulWorld, World}
 use Rattle.table_shared.specs.declared.entries.LogEntry.{LogEntry}

@@ -6,6 +6,7 @@ ghost use Rattle.shared_history.specs.Views.{thread_log};
 ghost use Rattle.table_steps.specs.Answers.{entries_in};
 ghost use Rattle.table_steps.specs.Kept.{world_of};
 ghost use Rattle.table_steps.specs.World.{opened_world};
+ghost use Rattle.table_shared.specs.Current.{StaysCurrent};
 ghost use Rattle.table_shared.specs.Histories.{IsHistory, calls_by, calls_of, history_of, last_world};
 ghost use Rattle.table_shared.specs.Runs as Call;
 ghost use Rattle.table_shared.specs.Runs.{Makes};
@@ -40,10 +41,12 @@ pub struct Closed<T: Ledgers, O: Opening> {
 }
 
 impl<T: Ledgers, O: Opening> Closed<T, O> {
-    /// For the prover: what all threads did is one history of the opened table, and only threads that it was opened for
+    /// For the prover: what all threads did is one history of the opened table, in which the paths that a request was
+    /// given lead to the nodes that it holds from its begin to its finish, and only threads that the table was opened for
     /// made calls. It does nothing.
     pub fn attest(&self)
         ensures history { IsHistory (opened_world O.limits) (history_of self.now.table.log) }
+        ensures current { StaysCurrent (history_of self.now.table.log) }
         ensures nobody { (index : ℕ) → O.threads ≤ index → calls_by index (history_of self.now.table.log) ≡ [] }
     {
         self.table.attest(); // proof: its law

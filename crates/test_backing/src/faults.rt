@@ -1,226 +1,61 @@
 //! A real folder whose system fails, or changes between two of its calls.
 
-use crate::asking::{expect_count, expect_rows};
-use crate::sample_trees::{place_of, sample_folder};
-use backing_folder::{Folder, System};
-use std::alloc::{Allocator, Global};
-use std::fs::{File, Metadata, OpenOptions, Permissions};
-use std::io::ErrorKind;
-use std::os::unix::fs::symlink;
-use std::path::PathBuf;
-use std::rt::Files;
+use crate::opening::open;
+use crate::rows::{expect_told, tell_folder};
+use crate::sample_trees::sample_folder;
+use crate::telling::{Item, Step, details_at, tell};
+use crate::watch::Trick;
+use backing::Time;
+use disk::DiskError;
+use std::fs;
 use std::test::Fail;
-use std::time::{Clock, Duration};
-use std::{fs, io};
+use std::time::{SystemTime, UNIX_EPOCH};
 
-/// What goes wrong.
-#[derive(Clone, Copy)]
-enum Trick {
-    /// Each `lstat` fails like this.
-    Look(ErrorKind),
-    /// The file `a` becomes a link to another file before it is opened.
-    Replace,
-    /// A file is created in a folder right before the folder is removed.
-    Enter,
-    /// A file is created at a path right before something is renamed to it.
-    Arrive,
-    /// Nothing may be opened, and the file `e` belongs to another user.
-    Shut,
-    /// No `lstat` of the folder `d` succeeds after the file `e` is gone.
-    Blind,
-}
-
-/// The system with this trick.
-#[derive(Clone, Copy)]
-struct Tricked {
-    rt: HostRuntime,
-    trick: Trick,
-}
-
-impl Tricked {
-    /// Replaces the file by a link, if it is `a`.
-    fn replace(&self, path: &str) -> io::Result<()> {
-        if path.ends_with("/a") {
-            fs::remove_file(&self.rt, path)?;
-            symlink(&self.rt, "e", path)?;
-        }
-        Ok(())
-    }
-
-    /// Creates the file in the folder, if that is the trick.
-    fn enter(&self, folder: &str) -> io::Result<()> {
-        match self.trick {
-            Trick::Enter => {
-                let place = place_of(self.rt.alloc(), folder, "late")?;
-                fs::write(&self.rt, place.as_str(), "late")
-            }
-            Trick::Look(_) | Trick::Replace | Trick::Arrive | Trick::Shut | Trick::Blind => Ok(()),
-        }
-    }
-
-    /// Fails, if that is the trick.
-    fn look_at(&self, path: &str) -> io::Result<()> {
-        match (self.trick, path.strip_suffix("/d")) {
-            (Trick::Look(kind), _) => Err(io::Error::from(kind)),
-            (Trick::Blind, Some(root)) => {
-                let place = place_of(self.rt.alloc(), root, "e")?;
-                self.rt.symlink_metadata(place.as_str())?;
-                Ok(())
-            }
-            _ => Ok(()),
-        }
-    }
-}
-
-impl Alloc for Tricked {
-    type A = Global;
-
-    fn alloc(&self) -> Global {
-        self.rt.alloc()
-    }
-}
-
-/// Its clock does not move: it shows half a second after a billion seconds.
-impl Clock for Tricked {
-    fn monotonic(&self) -> io::Result<Duration> {
-        self.since_1970()
-    }
-
-    fn since_1970(&self) -> io::Result<Duration> {
-        Ok(Duration::from_millis(1_000_000_000_500))
-    }
-}
-
-impl Files for Tricked {
-    type File = File;
-
-    type Dir = <HostRuntime as Files>::Dir;
-
-    fn open_file(&self, how: &OpenOptions, path: &str) -> io::Result<File> {
-        match self.trick {
-            Trick::Replace => self.replace(path)?,
-            Trick::Shut => return Err(io::Error::from(ErrorKind::PermissionDenied)),
-            Trick::Look(_) | Trick::Enter | Trick::Arrive | Trick::Blind => {}
-        }
-        self.rt.open_file(how, path)
-    }
-
-    fn open_dir(&self, path: &str) -> io::Result<Self::Dir> {
-        self.rt.open_dir(path)
-    }
-
-    fn metadata(&self, path: &str) -> io::Result<Metadata> {
-        self.rt.metadata(path)
-    }
-
-    fn symlink_metadata(&self, path: &str) -> io::Result<Metadata> {
-        self.look_at(path)?;
-        self.rt.symlink_metadata(path)
-    }
-
-    fn copy(&self, from: &str, to: &str) -> io::Result<u64> {
-        self.rt.copy(from, to)
-    }
-
-    fn rename(&self, from: &str, to: &str) -> io::Result<()> {
-        match self.trick {
-            Trick::Arrive => fs::write(&self.rt, to, "late")?,
-            Trick::Look(_) | Trick::Replace | Trick::Enter | Trick::Shut | Trick::Blind => {}
-        }
-        self.rt.rename(from, to)
-    }
-
-    fn remove_file(&self, path: &str) -> io::Result<()> {
-        self.rt.remove_file(path)
-    }
-
-    fn create_dir(&self, path: &str) -> io::Result<()> {
-        self.rt.create_dir(path)
-    }
-
-    fn remove_dir(&self, path: &str) -> io::Result<()> {
-        self.enter(path)?;
-        self.rt.remove_dir(path)
-    }
-
-    fn remove_dir_all<B: Allocator>(&self, alloc: B, path: &str) -> io::Result<()> {
-        self.enter(path)?;
-        self.rt.remove_dir_all(alloc, path)
-    }
-
-    fn create_dir_with_mode(&self, path: &str, mode: u32) -> io::Result<()> {
-        self.rt.create_dir_with_mode(path, mode)
-    }
-
-    fn set_permissions(&self, path: &str, permissions: Permissions) -> io::Result<()> {
-        if path.ends_with("/e") {
-            return Err(io::Error::from_raw_os_error(1));
-        }
-        self.rt.set_permissions(path, permissions)
-    }
-
-    fn lchown(&self, path: &str, uid: Option<u32>, gid: Option<u32>) -> io::Result<()> {
-        self.rt.lchown(path, uid, gid)
-    }
-
-    fn canonicalize<B: Allocator>(&self, alloc: B, path: &str) -> io::Result<PathBuf<B>> {
-        self.rt.canonicalize(alloc, path)
-    }
-}
-
-/// Checks that the calls have these answers, and that that many of them are counted as failures.
-fn ask_all(
-    alloc: Global,
-    folder: &mut Folder<System<Tricked>>,
-    rows: &[(&str, &str)],
-    count: u64,
-) -> Result<(), Fail> {
-    expect_rows(alloc, folder, rows)?;
-    expect_count(folder.failures(), count)
-}
-
-/// The same for the folder at that path, with this trick.
-fn tell_at(
-    rt: HostRuntime,
+/// In the folder at that path, in which that goes wrong, the calls have these answers, and so many are counted as failures.
+fn tell_trick_at(
+    rt: &HostRuntime,
     root: &str,
     trick: Trick,
     rows: &[(&str, &str)],
     count: u64,
 ) -> Result<(), Fail> {
-    let mut folder = Folder::open(Tricked { rt, trick }, root)?;
-    ask_all(rt.alloc(), &mut folder, rows, count)
+    let mut opened = open(rt, root)?;
+    opened.watch.play(trick);
+    expect_told(rt.alloc(), &mut opened, rows, count)
 }
 
-/// The same for a new sample folder.
-fn tell(
-    rt: HostRuntime,
+/// The same in a new sample folder.
+fn tell_trick(
+    rt: &HostRuntime,
     name: &str,
     trick: Trick,
     rows: &[(&str, &str)],
     count: u64,
 ) -> Result<(), Fail> {
-    let root = sample_folder(&rt, name)?;
-    tell_at(rt, root.as_str(), trick, rows, count)?;
-    fs::remove_dir_all(&rt, root.as_str())?;
+    let root = sample_folder(rt, name)?;
+    tell_trick_at(rt, root.as_str(), trick, rows, count)?;
+    fs::remove_dir_all(rt, root.as_str())?;
     Ok(())
 }
 
 #[test]
 fn a_failure_has_its_number(rt: HostRuntime) -> Result<(), Fail> {
     let failures = [
-        (ErrorKind::NotFound, "fault 2", 0),
-        (ErrorKind::PermissionDenied, "fault 13", 1),
-        (ErrorKind::AlreadyExists, "fault 17", 1),
-        (ErrorKind::OutOfMemory, "fault 12", 1),
-        (ErrorKind::FilesystemLoop, "fault 5", 1),
+        (DiskError::Absent, "fault 2", 0),
+        (DiskError::Failed(13), "fault 13", 1),
+        (DiskError::Exists, "fault 17", 1),
+        (DiskError::NotFolder, "fault 20", 1),
+        (DiskError::Failed(12), "fault 12", 1),
+        (DiskError::Failed(40), "fault 40", 1),
     ];
-    for (kind, fault, count) in failures {
-        tell(rt, "looks", Trick::Look(kind), &[("stat a", fault)], count)?;
+    for (error, fault, count) in failures {
+        let rows = [("stat a", fault)];
+        tell_trick(&rt, "looks", Trick::Look(error), rows.as_slice(), count)?;
     }
     Ok(())
 }
 
-// What is at `e` is unchanged.
+/// What is at `e` is unchanged.
 #[test]
 fn a_file_replaced_before_it_is_opened_is_not_touched(rt: HostRuntime) -> Result<(), Fail> {
     const WORDS: [&str; 7] = [
@@ -241,31 +76,81 @@ fn a_file_replaced_before_it_is_opened_is_not_touched(rt: HostRuntime) -> Result
             ("mode e", "640"),
             ("times e", "1.2 3.4"),
         ];
-        tell(rt, "replaced", Trick::Replace, rows.as_slice(), 1)?;
+        tell_trick(&rt, "replaced", Trick::Replace, rows.as_slice(), 1)?;
     }
     Ok(())
 }
 
+/// The same in a folder in which others may write: there no link is followed.
+#[test]
+fn no_link_is_followed_that_others_put_there(rt: HostRuntime) -> Result<(), Fail> {
+    const WORDS: [(&str, &str); 7] = [
+        ("read a 0 9", "fault 40"),
+        ("write a 0 xyz", "fault 40"),
+        ("setlen a 7", "fault 40"),
+        ("sync a", "fault 40"),
+        ("chmod a 7777", "fault 40"),
+        ("chown a 0 -", "fault 40"),
+        ("utimes a 5.1 6.2", "fault 40"),
+    ];
+    for (words, wanted) in WORDS {
+        let rows = [
+            ("chmod . 777", "done"),
+            ("chmod e 640", "done"),
+            ("utimes e 1.2 3.4", "done"),
+            (words, wanted),
+            ("stat e", "file 0"),
+            ("mode e", "640"),
+            ("times e", "1.2 3.4"),
+        ];
+        tell_trick(&rt, "others", Trick::Replace, rows.as_slice(), 1)?;
+    }
+    Ok(())
+}
+
+// The system tells that the folder has names, and a look at them shows it.
 #[test]
 fn a_folder_is_not_removed_with_what_came_into_it(rt: HostRuntime) -> Result<(), Fail> {
     let rows = [
-        ("rmdir d", "fault 5"),
+        ("rmdir d", "fault 39"),
         ("list d", "names late"),
         ("read d/late 0 9", "bytes 6c617465"),
     ];
-    tell(rt, "late", Trick::Enter, rows.as_slice(), 1)
+    tell_trick(&rt, "late", Trick::Enter, rows.as_slice(), 0)
 }
 
-// What another process creates between the `lstat` of a target and the rename is replaced without an error.
+// What another process creates between the look at a target and the rename is replaced without an error.
 #[test]
 fn a_move_replaces_what_came_after_its_look(rt: HostRuntime) -> Result<(), Fail> {
     let rows = [("rename-new a b", "done"), ("read b 0 9", "bytes 616263")];
-    tell(rt, "arrived", Trick::Arrive, rows.as_slice(), 0)
+    tell_trick(&rt, "arrived", Trick::Arrive, rows.as_slice(), 0)
 }
 
-// Then permission bits and owners are set by path, and times are not.
+/// All is closed then, and opened again.
 #[test]
-fn what_cannot_be_opened_is_changed_by_its_path(rt: HostRuntime) -> Result<(), Fail> {
+fn a_move_that_failed_has_its_number(rt: HostRuntime) -> Result<(), Fail> {
+    const STEPS: &[Step] = &[
+        Step::Put("d/f", Item::File("one")),
+        Step::Ask("read d/f 0 9", "bytes 6f6e65"),
+        Step::Ask("read a 0 9", "bytes 616263"),
+        Step::Play(Trick::Rename(DiskError::Failed(18))),
+        Step::Ask("rename a d/f", "fault 18"),
+        Step::Failed(1),
+        Step::Ask("rename-new a d/g", "fault 18"),
+        Step::Failed(2),
+        Step::Both("read d/f 0 9", "bytes 6f6e65"),
+        Step::Both("read a 0 9", "bytes 616263"),
+        Step::Play(Trick::Nothing),
+        Step::Ask("rename a d/f", "done"),
+        Step::Both("read d/f 0 9", "bytes 616263"),
+        Step::Failed(2),
+    ];
+    tell(rt, "not-moved", STEPS)
+}
+
+// Then permission bits and owners are set by name, and times are not.
+#[test]
+fn what_cannot_be_opened_is_changed_by_its_name(rt: HostRuntime) -> Result<(), Fail> {
     let rows = [
         ("chmod a 0", "done"),
         ("mode a", "0"),
@@ -280,49 +165,92 @@ fn what_cannot_be_opened_is_changed_by_its_path(rt: HostRuntime) -> Result<(), F
         ("utimes a now -", "fault 13"),
         ("chmod e 600", "fault 1"),
     ];
-    tell(rt, "shut", Trick::Shut, rows.as_slice(), 2)
+    tell_trick(&rt, "shut", Trick::Shut, rows.as_slice(), 2)
 }
 
-// By the clock, and not by the disk.
+/// Checks that it is no more than a minute ago.
+fn expect_recent(rt: &HostRuntime, time: Time) -> Result<(), Fail> {
+    let now = SystemTime::now(rt)?.duration_since(UNIX_EPOCH)?;
+    if time.seconds.abs_diff(now.as_secs()) <= 60 {
+        return Ok(());
+    }
+    Err(Fail::from(("that is not now", time.seconds)))
+}
+
 #[test]
 fn now_is_what_the_clock_says(rt: HostRuntime) -> Result<(), Fail> {
-    let rows = [
-        ("utimes a now 6.2", "done"),
-        ("times a", "1000000000.500000000 6.2"),
-        ("utimes d 5.1 now", "done"),
-        ("times d", "5.1 1000000000.500000000"),
+    const ROWS: &[(&str, &str)] = &[
+        ("utimes a 5.1 6.2", "done"),
+        ("utimes d 5.1 6.2", "done"),
+        ("utimes a now -", "done"),
+        ("utimes d - now", "done"),
     ];
-    tell(rt, "now", Trick::Arrive, rows.as_slice(), 0)
+    let root = sample_folder(&rt, "now")?;
+    tell_folder(&rt, root.as_str(), ROWS, 0)?;
+    let a = details_at(&rt, root.as_str(), "a")?;
+    let d = details_at(&rt, root.as_str(), "d")?;
+    expect_recent(&rt, a.accessed)?;
+    expect_recent(&rt, d.modified)?;
+    assert_eq!(rt; (a.modified.seconds, a.modified.nanos), (6, 2));
+    assert_eq!(rt; (d.accessed.seconds, d.accessed.nanos), (5, 1));
+    fs::remove_dir_all(&rt, root.as_str())?;
+    Ok(())
 }
 
-// For a STAT one `lstat` finds a file or a folder that was found, made or moved there before, and the folder above it
-// is not looked at.
+/// For a second after a look a folder is used without one, and what stands in it is looked at. Then it is looked at once more.
 #[test]
-fn what_was_seen_is_told_by_one_look(rt: HostRuntime) -> Result<(), Fail> {
-    let rows = [
-        ("make d/f", "done"),
-        ("make d/g", "done"),
-        ("mkdir d/x", "done"),
-        ("mkdir d/y", "done"),
-        ("make d/i", "done"),
-        ("rename d/i d/h", "done"),
-        ("write d/f 0 abc", "wrote 3"),
-        ("stat d/x", "folder 0"),
-        ("remove e", "done"),
-        ("stat d/f", "file 3"),
-        ("stat d/g", "file 0"),
-        ("stat d/h", "file 0"),
-        ("stat d/x", "folder 0"),
-        ("read d/f 0 9", "bytes 616263"),
-        ("stat d/y", "fault 2"),
-        ("list d/x", "fault 2"),
-        ("rename d/f d/g", "fault 2"),
-        ("rename-new d/f d/i", "fault 2"),
-        ("remove d/f", "fault 2"),
-        ("rmdir d/x", "fault 2"),
-        ("stat d", "fault 2"),
-        ("make e", "done"),
-        ("stat d/y", "folder 0"),
+fn a_folder_that_was_looked_at_is_used_without_a_look(rt: HostRuntime) -> Result<(), Fail> {
+    const STEPS: &[Step] = &[
+        Step::Ask("make d/f", "done"),
+        Step::Ask("make d/g", "done"),
+        Step::Ask("mkdir d/x", "done"),
+        Step::Ask("mkdir d/y", "done"),
+        Step::Ask("make d/i", "done"),
+        Step::Ask("rename d/i d/h", "done"),
+        Step::Ask("write d/f 0 abc", "wrote 3"),
+        Step::Ask("stat d/x", "folder 0"),
+        Step::Play(Trick::Blind),
+        Step::Ask("stat d/f", "file 3"),
+        Step::Ask("stat d/g", "file 0"),
+        Step::Ask("stat d/h", "file 0"),
+        Step::Ask("stat d/x", "folder 0"),
+        Step::Ask("list d/x", "names"),
+        Step::Ask("rename d/g d/x/g", "done"),
+        Step::Ask("rename-new d/x/g d/g", "done"),
+        Step::Ask("remove d/g", "done"),
+        Step::Ask("make d/g", "done"),
+        Step::Ask("rmdir d/y", "done"),
+        Step::Later,
+        Step::Ask("stat d/g", "fault 2"),
+        Step::Ask("list d/x", "fault 2"),
+        Step::Ask("rename d/h d/i", "fault 2"),
+        Step::Ask("rename-new d/h d/i", "fault 2"),
+        Step::Ask("remove d/g", "fault 2"),
+        Step::Ask("rmdir d/x", "fault 2"),
+        Step::Ask("stat d", "fault 2"),
+        Step::Failed(0),
+        Step::Play(Trick::Nothing),
+        Step::Both("read d/f 0 9", "bytes 616263"),
+        Step::Both("list d", "names f g h x/"),
+        Step::Failed(0),
     ];
-    tell(rt, "blind", Trick::Blind, rows.as_slice(), 0)
+    tell(rt, "blind", STEPS)
+}
+
+/// No file has a byte there.
+#[test]
+fn what_no_file_is_as_long_as(rt: HostRuntime) -> Result<(), Fail> {
+    const ROWS: &[(&str, &str)] = &[
+        ("read a 3 9", "bytes "),
+        ("read a 9223372036854775807 9", "bytes "),
+        ("read a 9223372036854775808 9", "bytes "),
+        ("read a 18446744073709551615 9", "bytes "),
+        ("write a 9223372036854775808 x", "fault 27"),
+        ("write a 18446744073709551615 x", "fault 5"),
+        ("setlen a 9223372036854775808", "fault 27"),
+        ("setlen a 18446744073709551615", "fault 27"),
+        ("stat a", "file 3"),
+        ("read a 0 9", "bytes 616263"),
+    ];
+    tell_trick(&rt, "longest", Trick::Nothing, ROWS, 4)
 }

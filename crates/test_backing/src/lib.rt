@@ -1,4 +1,4 @@
-//! The calls of `backing` on a memory tree and on a real folder, side by side, row by row and at random.
+//! The calls of `backing` on a memory tree and on a folder of a disk, side by side, row by row and at random.
 #![tactic(auto)]
 
 #[cfg(test)]
@@ -6,19 +6,35 @@ mod asking;
 #[cfg(test)]
 mod attributes;
 #[cfg(test)]
+mod costs;
+#[cfg(test)]
+mod deep;
+#[cfg(test)]
 mod details;
 #[cfg(test)]
 mod faults;
 #[cfg(test)]
+mod gone;
+#[cfg(test)]
+mod kept;
+#[cfg(test)]
 mod links;
+#[cfg(test)]
+mod memory;
 #[cfg(test)]
 mod moved;
 #[cfg(test)]
 mod moves;
 #[cfg(test)]
+mod opening;
+#[cfg(test)]
+mod planned;
+#[cfg(test)]
 mod random;
 #[cfg(test)]
 mod remembered;
+#[cfg(test)]
+mod rooms;
 #[cfg(test)]
 mod rows;
 #[cfg(test)]
@@ -27,3 +43,11 @@ mod sample_trees;
 mod seen;
 #[cfg(test)]
 mod telling;
+#[cfg(test)]
+mod trusted;
+#[cfg(test)]
+mod watch;
+#[cfg(test)]
+mod watched;
+#[cfg(test)]
+mod workers;

@@ -1,8 +1,8 @@
 //! Things that a real folder does not show.
 
+use crate::opening::open;
 use crate::sample_trees::{place_of, sample_folder};
 use crate::telling::{Item, Step, tell};
-use backing_folder::Folder;
 use std::fs;
 use std::test::Fail;
 
@@ -72,7 +72,10 @@ fn a_file_that_became_a_link_is_not_read(rt: HostRuntime) -> Result<(), Fail> {
         Step::Ask("read a 0 9", "bytes 616263"),
         Step::Put("a", Item::Nothing),
         Step::Put("a", Item::Link("/etc/passwd")),
-        Step::Ask("read a 0 9", "fault 2"),
+        // What is kept open is read until a look shows that it is gone.
+        Step::Ask("read a 0 9", "bytes 616263"),
+        Step::Both("stat a", "fault 2"),
+        Step::Both("read a 0 9", "fault 2"),
         Step::Ask("write a 0 x", "fault 2"),
         Step::Failed(0),
     ];
@@ -97,7 +100,7 @@ fn no_name_leads_out(rt: HostRuntime) -> Result<(), Fail> {
 /// Checks whether the name in the folder may be the root of another one.
 fn expect_root(rt: HostRuntime, root: &str, name: &str, said: bool) -> Result<(), Fail> {
     let place = place_of(rt.alloc(), root, name)?;
-    if Folder::open(rt, place.as_str()).is_ok() == said {
+    if open(&rt, place.as_str()).is_ok() == said {
         return Ok(());
     }
     Err(Fail::from((name, said)))

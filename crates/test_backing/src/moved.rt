@@ -63,6 +63,7 @@ fn a_file_is_moved_in_the_folder_that_stands_there_now(rt: HostRuntime) -> Resul
         Step::Put("d/x/f", Item::File("one")),
         Step::Both("stat d/x/f", "file 3"),
         Step::Put("away", Item::Moved("d/x")),
+        Step::Later,
         Step::Both("rename d/x/f d/x/g", "fault 2"),
         Step::Put("d/x", Item::Folder),
         Step::Both("rename d/x/f d/x/g", "fault 2"),

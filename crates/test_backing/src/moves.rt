@@ -104,7 +104,7 @@ const EXCHANGES: [&[(&str, &str)]; 3] = [
     ],
 ];
 
-/// A real folder refuses every exchange, whatever is there.
+/// A real folder fails at every exchange, whatever is there.
 const REFUSED: &[(&str, &str)] = &[
     ("exchange a e", "fault 22"),
     ("exchange a a", "fault 22"),
@@ -135,9 +135,9 @@ fn exchanges_in_a_memory_tree(rt: HostRuntime) -> Result<(), Fail> {
 
 #[test]
 fn moves_in_a_real_folder(rt: HostRuntime) -> Result<(), Fail> {
-    for rows in [NEW[0], NEW[1], REFUSED] {
+    for (rows, failures) in [(NEW[0], 0), (NEW[1], 0), (REFUSED, 5)] {
         let root = sample_folder(&rt, "moves")?;
-        tell_folder(rt, root.as_str(), rows)?;
+        tell_folder(&rt, root.as_str(), rows, failures)?;
         fs::remove_dir_all(&rt, root.as_str())?;
     }
     Ok(())

@@ -1,22 +1,28 @@
-//! Random calls on a memory tree and on a real folder, side by side.
+//! Random calls on a memory tree and on a folder of a disk, side by side.
 
 use crate::asking::{ask, expect, expect_count};
+use crate::opening::{CAPACITY, Opened, open_with};
 use crate::sample_trees::new_folder;
 use backing::MemTree;
-use backing_folder::{Folder, System};
+use disk::Disk;
+use disk_folder::Folder;
 use std::alloc::{AllocError, Global};
 use std::fs;
 use std::test::Fail;
 
 /// Random numbers, the same ones in each run.
 #[derive(Drop)]
-struct Dice {
+pub struct Dice {
     state: u64,
 }
 
 impl Dice {
+    pub fn new(state: u64) -> Dice {
+        Dice { state }
+    }
+
     /// A number below `faces`, which is not 0.
-    fn below(&mut self, faces: u64) -> u64 {
+    pub fn below(&mut self, faces: u64) -> u64 {
         self.state = self
             .state
             .wrapping_mul(6_364_136_223_846_793_005)
@@ -74,7 +80,8 @@ const NAMES: [&str; 25] = [
     "utimes",
 ];
 
-fn call(alloc: Global, dice: &mut Dice) -> Result<String, AllocError> {
+/// The words of a random call.
+pub fn call(alloc: Global, dice: &mut Dice) -> Result<String, AllocError> {
     let one = path(alloc, dice)?;
     let offset = dice.below(12);
     let size = dice.below(9);
@@ -94,10 +101,10 @@ fn call(alloc: Global, dice: &mut Dice) -> Result<String, AllocError> {
 }
 
 /// Checks that the folder answers the call as the tree does, and counts no failure.
-fn ask_both(
+pub fn ask_both<D: Disk + Drop>(
     alloc: Global,
     tree: &mut MemTree,
-    folder: &mut Folder<System<HostRuntime>>,
+    folder: &mut Folder<D>,
     words: &str,
 ) -> Result<(), Fail> {
     let wanted = ask(alloc, tree, words)?;
@@ -105,25 +112,69 @@ fn ask_both(
     expect_count(folder.failures(), 0)
 }
 
-fn ask_many(alloc: Global, folder: &mut Folder<System<HostRuntime>>) -> Result<(), Fail> {
-    let mut tree = MemTree::new(alloc);
-    let mut dice = Dice { state: 20_251_122 };
-    for _ in 0..6000 {
-        let words = call(alloc, &mut dice)?;
-        ask_both(alloc, &mut tree, folder, words.as_str())?;
+/// Makes so many random calls on both.
+fn ask_some<D: Disk + Drop>(
+    alloc: Global,
+    tree: &mut MemTree,
+    folder: &mut Folder<D>,
+    dice: &mut Dice,
+    count: u32,
+) -> Result<(), Fail> {
+    for _ in 0..count {
+        let words = call(alloc, dice)?;
+        ask_both(alloc, tree, folder, words.as_str())?;
     }
+    Ok(())
+}
+
+/// Makes so many random calls on an empty tree and on the folder, which is empty.
+pub fn ask_many<D: Disk + Drop>(
+    alloc: Global,
+    folder: &mut Folder<D>,
+    count: u32,
+) -> Result<(), Fail> {
+    let mut tree = MemTree::new(alloc);
+    let mut dice = Dice::new(20_251_122);
+    ask_some(alloc, &mut tree, folder, &mut dice, count)?;
     expect_count(tree.failures(), 0)
 }
 
-fn ask_at(rt: HostRuntime, root: &str) -> Result<(), Fail> {
-    let mut folder = Folder::open(rt, root)?;
-    ask_many(rt.alloc(), &mut folder)
+fn ask_at(rt: &HostRuntime, root: &str, capacity: usize, count: u32) -> Result<(), Fail> {
+    let mut opened = open_with(rt, root, capacity)?;
+    ask_many(rt.alloc(), &mut opened.folder, count)
+}
+
+// With room for all that there is, for little of it, and for nothing.
+#[test]
+fn both_answer_alike(rt: HostRuntime) -> Result<(), Fail> {
+    for (capacity, count) in [(CAPACITY, 6000), (6, 3000), (0, 1000)] {
+        let root = new_folder(&rt, "random")?;
+        ask_at(&rt, root.as_str(), capacity, count)?;
+        fs::remove_dir_all(&rt, root.as_str())?;
+    }
+    Ok(())
+}
+
+/// Makes random calls, and after each ten of them six tenths of a second pass.
+fn ask_slowly(alloc: Global, opened: &mut Opened) -> Result<(), Fail> {
+    let mut tree = MemTree::new(alloc);
+    let mut dice = Dice::new(20_261_127);
+    for _ in 0..200 {
+        ask_some(alloc, &mut tree, &mut opened.folder, &mut dice, 10)?;
+        opened.watch.pass(600);
+    }
+    Ok(())
+}
+
+fn ask_slowly_at(rt: &HostRuntime, root: &str) -> Result<(), Fail> {
+    let mut opened = open_with(rt, root, 6)?;
+    ask_slowly(rt.alloc(), &mut opened)
 }
 
 #[test]
-fn both_answer_alike(rt: HostRuntime) -> Result<(), Fail> {
-    let root = new_folder(&rt, "random")?;
-    ask_at(rt, root.as_str())?;
+fn both_answer_alike_while_time_passes(rt: HostRuntime) -> Result<(), Fail> {
+    let root = new_folder(&rt, "slowly")?;
+    ask_slowly_at(&rt, root.as_str())?;
     fs::remove_dir_all(&rt, root.as_str())?;
     Ok(())
 }

@@ -1,15 +1,15 @@
-//! What a real folder remembers while others change it. A folder that was just opened remembers nothing.
+//! What a real folder keeps open while others change it. A folder that was just opened keeps nothing but its root.
 
-use crate::asking::{expect, expect_count};
+use crate::asking::expect_count;
+use crate::opening::{CAPACITY, Opened, open_with};
 use crate::sample_trees::sample_folder;
 use crate::telling::{Item, Step, tell};
-use backing_folder::{Folder, System};
 use std::alloc::Global;
 use std::fs;
 use std::test::Fail;
 
 #[test]
-fn a_replaced_folder_is_walked_to_anew(rt: HostRuntime) -> Result<(), Fail> {
+fn a_replaced_folder_is_opened_anew(rt: HostRuntime) -> Result<(), Fail> {
     const STEPS: &[Step] = &[
         Step::Put("d/x", Item::Folder),
         Step::Put("d/x/f", Item::File("one")),
@@ -17,6 +17,10 @@ fn a_replaced_folder_is_walked_to_anew(rt: HostRuntime) -> Result<(), Fail> {
         Step::Put("d/y", Item::Moved("d/x")),
         Step::Put("d/x", Item::Folder),
         Step::Put("d/x/f", Item::File("two")),
+        Step::Later,
+        // A file that is kept open is used until a look shows another one.
+        Step::Ask("read d/x/f 0 9", "bytes 6f6e65"),
+        Step::Both("stat d/x/f", "file 3"),
         Step::Both("read d/x/f 0 9", "bytes 74776f"),
         Step::Put("d/x/g", Item::File("g")),
         Step::Both("stat d/x/g", "file 1"),
@@ -33,12 +37,15 @@ fn a_moved_folder_is_absent_where_it_was(rt: HostRuntime) -> Result<(), Fail> {
         Step::Put("d/x/f", Item::File("one")),
         Step::Both("stat d/x/f", "file 3"),
         Step::Put("y", Item::Moved("d/x")),
+        Step::Ask("stat d/x/f", "file 3"),
+        Step::Later,
         Step::Both("stat d/x/f", "fault 2"),
         Step::Both("make d/x/g", "fault 2"),
         Step::Both("stat y/f", "file 3"),
         Step::Put("d/x", Item::Moved("y")),
         Step::Both("stat d/x/f", "file 3"),
         Step::Put("z", Item::Moved("d")),
+        Step::Later,
         Step::Both("stat d/x/f", "fault 2"),
         Step::Both("stat z/x/f", "file 3"),
         Step::Put("d", Item::File("d")),
@@ -59,6 +66,7 @@ fn a_link_in_the_way_is_not_followed(rt: HostRuntime) -> Result<(), Fail> {
         Step::Both("stat d/x/f", "file 3"),
         Step::Put("away", Item::Moved("d")),
         Step::Put("d", Item::Link("other")),
+        Step::Later,
         Step::Both("read d/x/f 0 9", "fault 2"),
         Step::Both("write d/x/f 0 x", "fault 2"),
         Step::Both("make d/x/g", "fault 2"),
@@ -78,6 +86,7 @@ fn a_link_in_a_folder_s_place_is_not_followed(rt: HostRuntime) -> Result<(), Fai
         Step::Both("stat d/x/f", "file 3"),
         Step::Put("away", Item::Moved("d/x")),
         Step::Put("d/x", Item::Link("../away")),
+        Step::Later,
         Step::Both("read d/x/f 0 9", "fault 2"),
         Step::Both("list d/x", "fault 2"),
         Step::Both("stat d/x/g", "fault 2"),
@@ -86,23 +95,26 @@ fn a_link_in_a_folder_s_place_is_not_followed(rt: HostRuntime) -> Result<(), Fai
     tell(rt, "link-there", STEPS)
 }
 
-// It is the same folder, so this is what others can do in a folder that is served.
 #[test]
-fn a_link_that_leads_to_the_very_folder_is_followed(rt: HostRuntime) -> Result<(), Fail> {
+fn a_link_that_leads_to_the_very_folder_is_not_followed(rt: HostRuntime) -> Result<(), Fail> {
     const STEPS: &[Step] = &[
         Step::Put("d/x", Item::Folder),
         Step::Put("d/x/f", Item::File("one")),
         Step::Both("stat d/x/f", "file 3"),
         Step::Put("away", Item::Moved("d")),
         Step::Put("d", Item::Link("away")),
-        Step::Ask("read d/x/f 0 9", "bytes 6f6e65"),
-        Step::Ask("list d", "fault 2"),
+        Step::Ask("list d", "names x/"),
+        Step::Later,
+        Step::Both("stat d/x/f", "fault 2"),
+        Step::Both("read d/x/f 0 9", "fault 2"),
+        Step::Both("list d", "fault 2"),
+        Step::Failed(0),
     ];
     tell(rt, "same-folder", STEPS)
 }
 
 #[test]
-fn folders_that_its_own_calls_change_are_forgotten(rt: HostRuntime) -> Result<(), Fail> {
+fn folders_that_its_own_calls_change_are_found_there(rt: HostRuntime) -> Result<(), Fail> {
     const STEPS: &[Step] = &[
         Step::Ask("mkdir d/x", "done"),
         Step::Ask("make d/x/f", "done"),
@@ -126,7 +138,7 @@ fn folders_that_its_own_calls_change_are_forgotten(rt: HostRuntime) -> Result<()
 }
 
 #[test]
-fn folders_that_a_move_to_a_free_path_changes_are_forgotten(rt: HostRuntime) -> Result<(), Fail> {
+fn folders_that_a_move_to_a_free_path_changes_are_found_there(rt: HostRuntime) -> Result<(), Fail> {
     const STEPS: &[Step] = &[
         Step::Ask("mkdir d/x", "done"),
         Step::Ask("make d/x/f", "done"),
@@ -145,30 +157,35 @@ fn folders_that_a_move_to_a_free_path_changes_are_forgotten(rt: HostRuntime) -> 
 }
 
 #[test]
-fn a_replaced_file_is_opened_anew(rt: HostRuntime) -> Result<(), Fail> {
+fn a_replaced_file_is_opened_anew_after_a_look(rt: HostRuntime) -> Result<(), Fail> {
     const STEPS: &[Step] = &[
         Step::Both("read a 0 9", "bytes 616263"),
         Step::Ask("write a 0 A", "wrote 1"),
         Step::Put("old", Item::Moved("a")),
         Step::Put("a", Item::File("new")),
+        Step::Ask("read a 0 9", "bytes 416263"),
+        Step::Ask("write a 3 D", "wrote 1"),
+        Step::Both("stat a", "file 3"),
         Step::Both("read a 0 9", "bytes 6e6577"),
         Step::Ask("write a 0 N", "wrote 1"),
         Step::Both("read a 0 9", "bytes 4e6577"),
-        Step::Both("read old 0 9", "bytes 416263"),
+        Step::Both("read old 0 9", "bytes 41626344"),
         Step::Ask("setlen a 1", "done"),
         Step::Both("read a 0 9", "bytes 4e"),
-        Step::Both("read old 0 9", "bytes 416263"),
+        Step::Both("read old 0 9", "bytes 41626344"),
         Step::Failed(0),
     ];
     tell(rt, "replaced-file", STEPS)
 }
 
 #[test]
-fn a_file_that_became_absent_is_not_read(rt: HostRuntime) -> Result<(), Fail> {
+fn a_file_that_became_absent_is_not_read_after_a_look(rt: HostRuntime) -> Result<(), Fail> {
     const STEPS: &[Step] = &[
         Step::Both("read a 0 9", "bytes 616263"),
         Step::Ask("write a 0 A", "wrote 1"),
         Step::Put("a", Item::Nothing),
+        Step::Ask("read a 0 9", "bytes 416263"),
+        Step::Both("stat a", "fault 2"),
         Step::Both("read a 0 9", "fault 2"),
         Step::Both("write a 0 x", "fault 2"),
         Step::Put("a", Item::Folder),
@@ -220,45 +237,47 @@ fn a_file_that_is_renamed_over_is_opened_anew(rt: HostRuntime) -> Result<(), Fai
 }
 
 /// Makes the folder with that number, and in it a file that contains the number.
-fn make_one(alloc: Global, folder: &mut Folder<System<HostRuntime>>, n: u64) -> Result<(), Fail> {
+fn make_one(alloc: Global, opened: &mut Opened, n: u64) -> Result<(), Fail> {
     let made = format!(in alloc; "mkdir d/{n}")?;
-    expect(alloc, folder, made.as_str(), "done")?;
+    opened.expect(alloc, made.as_str(), "done")?;
     let file = format!(in alloc; "make d/{n}/f")?;
-    expect(alloc, folder, file.as_str(), "done")?;
+    opened.expect(alloc, file.as_str(), "done")?;
     let written = format!(in alloc; "write d/{n}/f 0 {n}")?;
-    expect(alloc, folder, written.as_str(), "wrote 3")
+    opened.expect(alloc, written.as_str(), "wrote 3")
 }
 
 /// Checks that the last byte of that number's file is the last digit of the number.
-fn check_one(alloc: Global, folder: &mut Folder<System<HostRuntime>>, n: u64) -> Result<(), Fail> {
+fn check_one(alloc: Global, opened: &mut Opened, n: u64) -> Result<(), Fail> {
     let read = format!(in alloc; "read d/{n}/f 2 9")?;
     let last = format!(in alloc; "bytes 3{}", n % 10)?;
-    expect(alloc, folder, read.as_str(), last.as_str())
+    opened.expect(alloc, read.as_str(), last.as_str())
 }
 
-// More folders and files than are remembered and kept open.
-fn ask_many(alloc: Global, folder: &mut Folder<System<HostRuntime>>) -> Result<(), Fail> {
+// More folders and files than are kept open.
+fn ask_many(alloc: Global, opened: &mut Opened) -> Result<(), Fail> {
     for n in 100..400 {
-        make_one(alloc, folder, n)?;
+        make_one(alloc, opened, n)?;
     }
     for n in 100..400 {
-        check_one(alloc, folder, n)?;
+        check_one(alloc, opened, n)?;
     }
     for n in 100..400 {
-        check_one(alloc, folder, 499 - n)?;
+        check_one(alloc, opened, 499 - n)?;
     }
-    expect_count(folder.failures(), 0)
+    expect_count(opened.failures(), 0)
 }
 
-fn ask_many_at(rt: HostRuntime, root: &str) -> Result<(), Fail> {
-    let mut folder = Folder::open(rt, root)?;
-    ask_many(rt.alloc(), &mut folder)
+fn ask_many_at(rt: &HostRuntime, root: &str, capacity: usize) -> Result<(), Fail> {
+    let mut opened = open_with(rt, root, capacity)?;
+    ask_many(rt.alloc(), &mut opened)
 }
 
 #[test]
-fn more_than_is_remembered_is_found(rt: HostRuntime) -> Result<(), Fail> {
-    let root = sample_folder(&rt, "many")?;
-    ask_many_at(rt, root.as_str())?;
-    fs::remove_dir_all(&rt, root.as_str())?;
+fn more_than_is_kept_is_found(rt: HostRuntime) -> Result<(), Fail> {
+    for capacity in [CAPACITY, 4, 1] {
+        let root = sample_folder(&rt, "many")?;
+        ask_many_at(&rt, root.as_str(), capacity)?;
+        fs::remove_dir_all(&rt, root.as_str())?;
+    }
     Ok(())
 }

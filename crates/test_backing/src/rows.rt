@@ -1,9 +1,9 @@
 //! Rows for the definition of the calls.
 
-use crate::asking::{expect, expect_count, expect_rows, path_of};
+use crate::asking::{expect_count, expect_rows, path_of};
+use crate::opening::{Opened, open};
 use crate::sample_trees::{sample_folder, sample_tree};
 use backing::{MemTree, PlannedFault, Shared};
-use backing_folder::Folder;
 use std::alloc::Global;
 use std::fs;
 use std::sync::{Arc, Mutex, Wait};
@@ -143,18 +143,35 @@ fn rows_on_a_memory_tree(rt: HostRuntime) -> Result<(), Fail> {
     Ok(())
 }
 
-/// The rows on the real folder at that path. No call is counted as a failure.
-pub fn tell_folder(rt: HostRuntime, root: &str, rows: &[(&str, &str)]) -> Result<(), Fail> {
-    let mut folder = Folder::open(rt, root)?;
-    expect_rows(rt.alloc(), &mut folder, rows)?;
-    expect_count(folder.failures(), 0)
+/// The rows on a real folder, by which so many calls are counted as failures.
+pub fn expect_told(
+    alloc: Global,
+    opened: &mut Opened,
+    rows: &[(&str, &str)],
+    failures: u64,
+) -> Result<(), Fail> {
+    for (words, wanted) in rows {
+        opened.expect(alloc, words, wanted)?;
+    }
+    expect_count(opened.failures(), failures)
+}
+
+/// The same on the one at that path.
+pub fn tell_folder(
+    rt: &HostRuntime,
+    root: &str,
+    rows: &[(&str, &str)],
+    failures: u64,
+) -> Result<(), Fail> {
+    let mut opened = open(rt, root)?;
+    expect_told(rt.alloc(), &mut opened, rows, failures)
 }
 
 #[test]
 fn rows_on_a_real_folder(rt: HostRuntime) -> Result<(), Fail> {
     for rows in GROUPS {
         let root = sample_folder(&rt, "rows")?;
-        tell_folder(rt, root.as_str(), rows)?;
+        tell_folder(&rt, root.as_str(), rows, 0)?;
         fs::remove_dir_all(&rt, root.as_str())?;
     }
     Ok(())
@@ -174,82 +191,6 @@ fn rows_through_a_hold(rt: HostRuntime) -> Result<(), Fail> {
         tell_hold(rt.alloc(), rt, rows)?;
     }
     Ok(())
-}
-
-/// A step with a memory tree that starts as the sample.
-#[derive(Clone, Copy)]
-enum Step<'a> {
-    /// That call is to fail like this.
-    Plan(u64, PlannedFault),
-    /// A call, and its answer.
-    Ask(&'a str, &'a str),
-    /// That many of the calls so far have failed.
-    Failed(u64),
-}
-
-fn take(alloc: Global, tree: &mut MemTree, step: Step) -> Result<(), Fail> {
-    match step {
-        Step::Plan(call, fault) => {
-            tree.fail_at(call, fault)?;
-            Ok(())
-        }
-        Step::Ask(words, wanted) => expect(alloc, tree, words, wanted),
-        Step::Failed(count) => expect_count(tree.failures(), count),
-    }
-}
-
-/// Takes each step, starting from the sample.
-fn tell(alloc: Global, steps: &[Step]) -> Result<(), Fail> {
-    let mut tree = sample_tree(alloc)?;
-    for step in steps {
-        take(alloc, &mut tree, *step)?;
-    }
-    Ok(())
-}
-
-#[test]
-fn a_call_fails_after_its_work(rt: HostRuntime) -> Result<(), Fail> {
-    const STEPS: &[Step] = &[
-        Step::Plan(2, PlannedFault::After(5)),
-        Step::Ask("mkdir m", "done"),
-        Step::Ask("mkdir n", "fault 5"),
-        Step::Ask("stat n", "folder 0"),
-        Step::Failed(1),
-    ];
-    tell(rt.alloc(), STEPS)
-}
-
-#[test]
-fn a_call_fails_before_its_work(rt: HostRuntime) -> Result<(), Fail> {
-    const STEPS: &[Step] = &[
-        Step::Plan(0, PlannedFault::Before(1)),
-        Step::Plan(1, PlannedFault::After(30)),
-        Step::Plan(1, PlannedFault::Before(28)),
-        Step::Plan(3, PlannedFault::After(28)),
-        Step::Ask("mkdir n", "fault 28"),
-        Step::Ask("stat n", "fault 2"),
-        Step::Ask("mkdir a", "fault 28"),
-        Step::Ask("stat a", "file 3"),
-        Step::Plan(4, PlannedFault::Before(1)),
-        Step::Ask("stat a", "file 3"),
-        Step::Failed(2),
-    ];
-    tell(rt.alloc(), STEPS)
-}
-
-#[test]
-fn a_file_ends_at_its_limit(rt: HostRuntime) -> Result<(), Fail> {
-    const STEPS: &[Step] = &[
-        Step::Ask("write a 1048575 x", "wrote 1"),
-        Step::Ask("write a 1048576 x", "fault 27"),
-        Step::Ask("stat a", "file 1048576"),
-        Step::Ask("write a 18446744073709551615 x", "fault 27"),
-        Step::Ask("setlen a 1048577", "fault 27"),
-        Step::Ask("setlen a 1048576", "done"),
-        Step::Ask("setlen a 0", "done"),
-        Step::Ask("stat a", "file 0"),
-    ];
-    tell(rt.alloc(), STEPS)
 }
 
 /// Checks that adding a file there, or a folder if there are no bytes, is refused like this.

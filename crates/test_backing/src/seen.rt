@@ -1,10 +1,9 @@
-//! What a real folder remembers of a STAT while others change it. Each path is asked for twice first: the second time
-//! one `lstat` finds what was remembered.
+//! What a real folder tells by a STAT while others change it. Each path is asked for twice first: the second time its folder is open.
 
-use crate::asking::{expect, expect_count};
+use crate::asking::expect_count;
+use crate::opening::{Opened, open};
 use crate::sample_trees::sample_folder;
 use crate::telling::{Item, Step, tell};
-use backing_folder::{Folder, System};
 use std::alloc::Global;
 use std::fs;
 use std::test::Fail;
@@ -82,6 +81,8 @@ fn what_stands_in_another_folder_s_place_is_told(rt: HostRuntime) -> Result<(), 
         Step::Both("stat d/x/g", "file 1"),
         Step::Both("stat d/x/g", "file 1"),
         Step::Put("away", Item::Moved("d/x")),
+        Step::Ask("stat d/x/f", "file 3"),
+        Step::Later,
         Step::Both("stat d/x/f", "fault 2"),
         Step::Put("d/x", Item::Folder),
         Step::Put("d/x/f", Item::File("four")),
@@ -109,6 +110,7 @@ fn a_link_to_another_folder_is_not_followed_to_a_seen_name(rt: HostRuntime) -> R
         Step::Both("stat d/x/f", "file 3"),
         Step::Put("away", Item::Moved("d/x")),
         Step::Put("d/x", Item::Link("../other")),
+        Step::Later,
         Step::Both("stat d/x/f", "fault 2"),
         Step::Both("stat d/x", "fault 2"),
         Step::Put("d/x", Item::Nothing),
@@ -117,6 +119,7 @@ fn a_link_to_another_folder_is_not_followed_to_a_seen_name(rt: HostRuntime) -> R
         Step::Both("stat d/x/f", "file 3"),
         Step::Put("away", Item::Moved("d")),
         Step::Put("d", Item::Link("other")),
+        Step::Later,
         Step::Both("stat d/x/f", "fault 2"),
         Step::Both("stat d/x", "fault 2"),
         Step::Failed(0),
@@ -124,9 +127,9 @@ fn a_link_to_another_folder_is_not_followed_to_a_seen_name(rt: HostRuntime) -> R
     tell(rt, "seen-links", STEPS)
 }
 
-// It is the same file, so this is what others can do in a folder that is served.
+// Not even to the same file, once a second has passed.
 #[test]
-fn a_seen_file_is_told_through_a_link_to_its_folder(rt: HostRuntime) -> Result<(), Fail> {
+fn a_seen_file_is_not_told_through_a_link_to_its_folder(rt: HostRuntime) -> Result<(), Fail> {
     const STEPS: &[Step] = &[
         Step::Put("d/x", Item::Folder),
         Step::Put("d/x/f", Item::File("one")),
@@ -135,6 +138,9 @@ fn a_seen_file_is_told_through_a_link_to_its_folder(rt: HostRuntime) -> Result<(
         Step::Put("away", Item::Moved("d/x")),
         Step::Put("d/x", Item::Link("../away")),
         Step::Ask("stat d/x/f", "file 3"),
+        Step::Ask("stat d/x/g", "file 1"),
+        Step::Later,
+        Step::Ask("stat d/x/f", "fault 2"),
         Step::Ask("stat d/x/g", "fault 2"),
         Step::Ask("stat d/x", "fault 2"),
         Step::Ask("read d/x/f 0 9", "fault 2"),
@@ -158,11 +164,13 @@ fn names_in_a_seen_folder_that_was_replaced_are_found_anew(rt: HostRuntime) -> R
         Step::Put("d/x", Item::Folder),
         Step::Put("d/x/y", Item::Folder),
         Step::Put("d/x/y/f", Item::File("two")),
+        Step::Later,
         Step::Both("stat d/x/y/f", "file 3"),
         Step::Both("stat d/x/y", "folder 0"),
         Step::Put("gone", Item::Moved("d/x")),
         Step::Put("d/x", Item::Link("../away")),
         Step::Put("away/y/h", Item::File("h")),
+        Step::Later,
         Step::Both("stat d/x/y/h", "fault 2"),
         Step::Both("list d/x/y", "fault 2"),
         Step::Failed(0),
@@ -202,60 +210,50 @@ fn what_its_own_calls_change_is_told(rt: HostRuntime) -> Result<(), Fail> {
 }
 
 /// Makes a file with that many bytes, whose name is that number.
-fn make_one(alloc: Global, folder: &mut Folder<System<HostRuntime>>, n: u64) -> Result<(), Fail> {
+fn make_one(alloc: Global, opened: &mut Opened, n: u64) -> Result<(), Fail> {
     let made = format!(in alloc; "make d/{n}")?;
-    expect(alloc, folder, made.as_str(), "done")?;
+    opened.expect(alloc, made.as_str(), "done")?;
     let cut = format!(in alloc; "setlen d/{n} {n}")?;
-    expect(alloc, folder, cut.as_str(), "done")
+    opened.expect(alloc, cut.as_str(), "done")
 }
 
 /// Checks that the file with that name has that length.
-fn check_one(
-    alloc: Global,
-    folder: &mut Folder<System<HostRuntime>>,
-    n: u64,
-    length: u64,
-) -> Result<(), Fail> {
+fn check_one(alloc: Global, opened: &mut Opened, n: u64, length: u64) -> Result<(), Fail> {
     let words = format!(in alloc; "stat d/{n}")?;
     let wanted = format!(in alloc; "file {length}")?;
-    expect(alloc, folder, words.as_str(), wanted.as_str())
+    opened.expect(alloc, words.as_str(), wanted.as_str())
 }
 
 /// Moves the file with the one name over the one with the other.
-fn move_one(
-    alloc: Global,
-    folder: &mut Folder<System<HostRuntime>>,
-    from: u64,
-    to: u64,
-) -> Result<(), Fail> {
+fn move_one(alloc: Global, opened: &mut Opened, from: u64, to: u64) -> Result<(), Fail> {
     let words = format!(in alloc; "rename d/{from} d/{to}")?;
-    expect(alloc, folder, words.as_str(), "done")
+    opened.expect(alloc, words.as_str(), "done")
 }
 
 // More paths than are remembered.
-fn ask_many(alloc: Global, folder: &mut Folder<System<HostRuntime>>) -> Result<(), Fail> {
+fn ask_many(alloc: Global, opened: &mut Opened) -> Result<(), Fail> {
     for n in 1000..1800 {
-        make_one(alloc, folder, n)?;
+        make_one(alloc, opened, n)?;
     }
     for n in 1000..1800 {
-        check_one(alloc, folder, n, n)?;
+        check_one(alloc, opened, n, n)?;
     }
     for n in 1000..1800 {
-        check_one(alloc, folder, 2799 - n, 2799 - n)?;
+        check_one(alloc, opened, 2799 - n, 2799 - n)?;
     }
     for n in 1000..1799 {
-        move_one(alloc, folder, 2798 - n, 2799 - n)?;
+        move_one(alloc, opened, 2798 - n, 2799 - n)?;
     }
-    expect(alloc, folder, "stat d/1000", "fault 2")?;
+    opened.expect(alloc, "stat d/1000", "fault 2")?;
     for n in 1001..1800 {
-        check_one(alloc, folder, n, n - 1)?;
+        check_one(alloc, opened, n, n - 1)?;
     }
-    expect_count(folder.failures(), 0)
+    expect_count(opened.failures(), 0)
 }
 
 fn ask_many_at(rt: HostRuntime, root: &str) -> Result<(), Fail> {
-    let mut folder = Folder::open(rt, root)?;
-    ask_many(rt.alloc(), &mut folder)
+    let mut opened = open(&rt, root)?;
+    ask_many(rt.alloc(), &mut opened)
 }
 
 #[test]

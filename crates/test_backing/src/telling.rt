@@ -1,16 +1,20 @@
-//! Stories about a real folder: what the system puts into it, and what its calls answer. Each starts with a new sample
+//! Stories about a real folder: what others put into it, and what its calls answer. Each starts with a new sample
 //! folder.
 
-use crate::asking::{expect, expect_count, path_of};
+use crate::asking::{expect_count, path_of};
+use crate::opening::{CAPACITY, Opened, open, open_with};
 use crate::sample_trees::{place_of, sample_folder};
-use backing::{Answer, Call, Calls, Details, Time};
-use backing_folder::{Folder, System};
+use crate::watch::Trick;
+use backing::{Answer, Details, Time};
 use std::os::unix::fs::{MetadataExt, PermissionsExt, symlink};
 use std::os::unix::net::UnixListener;
 use std::test::Fail;
 use std::{fs, io};
 
-/// What the system puts at a place in the folder, without the folder's calls.
+/// For so many milliseconds a look at a folder is trusted.
+pub const TRUSTED: u64 = 1_000;
+
+/// What others put at a place in the folder, without the folder's calls.
 #[derive(Clone, Copy)]
 pub enum Item<'a> {
     /// A link to that place.
@@ -23,14 +27,26 @@ pub enum Item<'a> {
     Nothing,
     /// What is at that other name of the folder is moved there.
     Moved(&'a str),
+    /// What is there gets those permission bits.
+    Bits(u32),
 }
 
 #[derive(Clone, Copy)]
 pub enum Step<'a> {
-    /// The system puts that at the name.
+    /// Others put that at the name.
     Put(&'a str, Item<'a>),
+    /// So many milliseconds pass. Else no time does.
+    Pass(u64),
+    /// More time passes than a look is trusted.
+    Later,
+    /// From now on that goes wrong.
+    Play(Trick),
     /// A call, and its answer.
     Ask(&'a str, &'a str),
+    /// The same, where these calls of the system are made.
+    Costs(&'a str, &'a str, &'a str),
+    /// A call, its answer where root serves the folder, and else.
+    Rights(&'a str, &'a str, &'a str),
     /// The same, and a folder that was just opened has the same answer.
     Both(&'a str, &'a str),
     /// A STAT reports what the system reports about what is at the name.
@@ -52,11 +68,12 @@ fn put(rt: &HostRuntime, root: &str, place: &str, item: Item) -> io::Result<()> 
         }
         Item::Nothing => fs::remove_file(rt, place),
         Item::Moved(name) => fs::rename(rt, place_of(rt.alloc(), root, name)?.as_str(), place),
+        Item::Bits(bits) => fs::set_permissions(rt, place, fs::Permissions::from_mode(bits)),
     }
 }
 
 /// What the system reports about what is there, as a directory would.
-fn details_at(rt: &HostRuntime, root: &str, name: &str) -> io::Result<Details> {
+pub fn details_at(rt: &HostRuntime, root: &str, name: &str) -> io::Result<Details> {
     let place = place_of(rt.alloc(), root, name)?;
     let metadata = fs::symlink_metadata(rt, place.as_str())?;
     let time = |seconds: i64, nanos: i64| Time {
@@ -75,14 +92,9 @@ fn details_at(rt: &HostRuntime, root: &str, name: &str) -> io::Result<Details> {
     })
 }
 
-fn expect_same(
-    rt: &HostRuntime,
-    root: &str,
-    folder: &mut Folder<System<HostRuntime>>,
-    name: &str,
-) -> Result<(), Fail> {
+fn expect_same(rt: &HostRuntime, root: &str, opened: &mut Opened, name: &str) -> Result<(), Fail> {
     let path = path_of(rt.alloc(), name)?;
-    match folder.call(Call::Stat(&path)) {
+    match opened.stat(&path) {
         Answer::Stat { details, .. } => {
             let wanted = details_at(rt, root, name)?;
             if details == wanted {
@@ -95,12 +107,7 @@ fn expect_same(
 }
 
 /// Sets owner and group to what they are, each alone and both together.
-fn expect_own(
-    rt: &HostRuntime,
-    root: &str,
-    folder: &mut Folder<System<HostRuntime>>,
-    name: &str,
-) -> Result<(), Fail> {
+fn expect_own(rt: &HostRuntime, root: &str, opened: &mut Opened, name: &str) -> Result<(), Fail> {
     let Details { uid, gid, .. } = details_at(rt, root, name)?;
     let alloc = rt.alloc();
     for words in [
@@ -109,62 +116,86 @@ fn expect_own(
         format!(in alloc; "chown {name} - {gid}")?,
         format!(in alloc; "chown {name} - -")?,
     ] {
-        expect(alloc, folder, words.as_str(), "done")?;
+        opened.expect(alloc, words.as_str(), "done")?;
     }
-    expect_same(rt, root, folder, name)
+    expect_same(rt, root, opened, name)
 }
 
 /// Checks that a folder that was just opened has that answer.
-fn expect_anew(rt: HostRuntime, root: &str, words: &str, wanted: &str) -> Result<(), Fail> {
-    let mut folder = Folder::open(rt, root)?;
-    expect(rt.alloc(), &mut folder, words, wanted)
+fn expect_anew(rt: &HostRuntime, root: &str, words: &str, wanted: &str) -> Result<(), Fail> {
+    let mut anew = open(rt, root)?;
+    anew.expect(rt.alloc(), words, wanted)
 }
 
-fn take(
+/// Checks the answer, and that it takes these calls of the system.
+fn expect_calls(
     rt: &HostRuntime,
-    root: &str,
-    folder: &mut Folder<System<HostRuntime>>,
-    step: Step,
+    opened: &mut Opened,
+    words: &str,
+    wanted: &str,
+    calls: &str,
 ) -> Result<(), Fail> {
+    opened.watch.take()?;
+    opened.expect(rt.alloc(), words, wanted)?;
+    let made = opened.watch.take()?;
+    if made.as_str().trim_start() == calls {
+        return Ok(());
+    }
+    Err(Fail::from((words, made, calls)))
+}
+
+fn take(rt: &HostRuntime, root: &str, opened: &mut Opened, step: Step) -> Result<(), Fail> {
     match step {
         Step::Put(name, item) => {
             let place = place_of(rt.alloc(), root, name)?;
             put(rt, root, place.as_str(), item)?;
-            Ok(())
         }
-        Step::Ask(words, wanted) => expect(rt.alloc(), folder, words, wanted),
+        Step::Pass(milliseconds) => opened.watch.pass(milliseconds),
+        Step::Later => opened.watch.pass(TRUSTED + 1),
+        Step::Play(trick) => opened.watch.play(trick),
+        Step::Ask(words, wanted) => opened.expect(rt.alloc(), words, wanted)?,
+        Step::Costs(words, wanted, calls) => expect_calls(rt, opened, words, wanted, calls)?,
+        Step::Rights(words, wanted, refused) => {
+            let wanted = if opened.watch.user() == 0 {
+                wanted
+            } else {
+                refused
+            };
+            opened.expect(rt.alloc(), words, wanted)?;
+        }
         Step::Both(words, wanted) => {
-            expect(rt.alloc(), folder, words, wanted)?;
-            expect_anew(*rt, root, words, wanted)
+            opened.expect(rt.alloc(), words, wanted)?;
+            expect_anew(rt, root, words, wanted)?;
         }
-        Step::Same(name) => expect_same(rt, root, folder, name),
-        Step::Own(name) => expect_own(rt, root, folder, name),
-        Step::Failed(count) => expect_count(folder.failures(), count),
+        Step::Same(name) => expect_same(rt, root, opened, name)?,
+        Step::Own(name) => expect_own(rt, root, opened, name)?,
+        Step::Failed(count) => expect_count(opened.failures(), count)?,
     }
+    Ok(())
 }
 
-fn take_all(
-    rt: &HostRuntime,
-    root: &str,
-    folder: &mut Folder<System<HostRuntime>>,
-    steps: &[Step],
-) -> Result<(), Fail> {
+fn take_all(rt: &HostRuntime, root: &str, opened: &mut Opened, steps: &[Step]) -> Result<(), Fail> {
     for step in steps {
-        take(rt, root, folder, *step)?;
+        take(rt, root, opened, *step)?;
     }
     Ok(())
 }
 
 /// Takes each step in the folder at that path.
-fn tell_at(rt: HostRuntime, root: &str, steps: &[Step]) -> Result<(), Fail> {
-    let mut folder = Folder::open(rt, root)?;
-    take_all(&rt, root, &mut folder, steps)
+fn tell_at(rt: HostRuntime, root: &str, capacity: usize, steps: &[Step]) -> Result<(), Fail> {
+    let mut opened = open_with(&rt, root, capacity)?;
+    take_all(&rt, root, &mut opened, steps)
+}
+
+/// Takes each step in a new sample folder with that name, of which so many files and folders are kept open.
+pub fn tell_with(rt: HostRuntime, name: &str, capacity: usize, steps: &[Step]) -> Result<(), Fail> {
+    let root = sample_folder(&rt, name)?;
+    tell_at(rt, root.as_str(), capacity, steps)?;
+    fs::remove_dir_all(&rt, root.as_str())?;
+    Ok(())
 }
 
 /// Takes each step in a new sample folder with that name.
 pub fn tell(rt: HostRuntime, name: &str, steps: &[Step]) -> Result<(), Fail> {
-    let root = sample_folder(&rt, name)?;
-    tell_at(rt, root.as_str(), steps)?;
-    fs::remove_dir_all(&rt, root.as_str())?;
-    Ok(())
+    tell_with(rt, name, CAPACITY, steps)
 }

@@ -6,6 +6,8 @@ mod asking;
 #[cfg(test)]
 mod calls;
 #[cfg(test)]
+mod entered;
+#[cfg(test)]
 mod interrupted;
 #[cfg(test)]
 mod links;

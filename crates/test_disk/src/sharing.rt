@@ -110,7 +110,7 @@ fn what_one_worker_opened_is_open_for_the_other(rt: HostRuntime) -> Result<(), F
         (Second, "write 1 0 abc", "wrote 3"),
         (First, "read 1 0", "3 [97, 98, 99]"),
         (First, "rename 0 a 0 b", "done"),
-        (Second, "changes", "1"),
+        (Second, "changes", "3"),
         (Second, "open 0 a r", "Absent"),
         (Opened(1), "one that was not there", ""),
         (Second, "open 0 b r", "open 2"),

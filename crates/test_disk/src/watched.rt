@@ -1,4 +1,4 @@
-//! A system whose calls are counted, and of which some are ended by a signal.
+//! A system whose calls are counted, of which some are ended by a signal, and where some folders may be entered and not read.
 
 use disk::{Access, Change, DiskError, Stat};
 use linux_disk::{Page, SystemCalls};
@@ -8,6 +8,17 @@ use std::sync::atomic::{AtomicU64, Ordering};
 
 /// EINTR.
 const INTERRUPTED: i32 = 4;
+
+/// EACCES.
+const DENIED: i32 = 13;
+
+/// How the name of a folder ends that may not be read, whoever asks.
+const SHUT: &[u8] = b".shut";
+
+/// Whether the folder at the end of that may not be read.
+fn is_shut(path: &[u8]) -> bool {
+    path.ends_with(SHUT)
+}
 
 /// What is counted, and what is to come.
 #[derive(Drop)]
@@ -123,11 +134,28 @@ impl<C: SystemCalls + Drop> SystemCalls for Watched<C> {
         if self.watch.ends() {
             return Err(DiskError::Failed(INTERRUPTED));
         }
+        if is_shut(name) {
+            return Err(DiskError::Failed(DENIED));
+        }
         self.calls.open_dir(dir, name)
+    }
+
+    fn open_dir_at(&self, dir: &C::Fd, path: &Page) -> Result<C::Fd, DiskError> {
+        if self.watch.ends() {
+            return Err(DiskError::Failed(INTERRUPTED));
+        }
+        if is_shut(path.text()) {
+            return Err(DiskError::Failed(DENIED));
+        }
+        self.calls.open_dir_at(dir, path)
     }
 
     fn look(&self, dir: &C::Fd, name: &Page) -> Result<Stat, DiskError> {
         self.calls.look(dir, name)
+    }
+
+    fn look_at(&self, dir: &C::Fd, path: &Page) -> Result<Stat, DiskError> {
+        self.calls.look_at(dir, path)
     }
 
     fn inspect(&self, fd: &C::Fd, none: &Page) -> Result<Stat, DiskError> {
@@ -155,6 +183,14 @@ impl<C: SystemCalls + Drop> SystemCalls for Watched<C> {
 
     fn remove_file(&self, dir: &C::Fd, name: &[u8]) -> Result<(), DiskError> {
         self.calls.remove_file(dir, name)
+    }
+
+    fn remove_file_at(&self, dir: &C::Fd, path: &Page) -> Result<(), DiskError> {
+        self.calls.remove_file_at(dir, path)
+    }
+
+    fn remove_dir_at(&self, dir: &C::Fd, path: &Page) -> Result<(), DiskError> {
+        self.calls.remove_dir_at(dir, path)
     }
 
     fn remove_dir(&self, dir: &C::Fd, name: &[u8]) -> Result<(), DiskError> {

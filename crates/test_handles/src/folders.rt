@@ -2,7 +2,7 @@
 
 use crate::making::{Given, listing, some_listing, told};
 use backing::Kind::{File, Folder};
-use handles::{Dirs, Listing};
+use handles::{Dirs, FolderLimits, Listing};
 use std::alloc::{AllocError, Global};
 use std::test::Fail;
 use std::thread;
@@ -10,6 +10,9 @@ use std::thread;
 const ONE: Given = &[("a", File)];
 
 const TWO: Given = &[("c", File), ("b", Folder)];
+
+/// How many folders may be open in the test in which four threads close each of them.
+const MANY: u64 = 1_000;
 
 fn put(dirs: &Dirs, listing: Listing) -> Result<u64, Fail> {
     match dirs.put(listing) {
@@ -34,8 +37,11 @@ fn put_lent_and_retired(rt: HostRuntime) -> Result<(), Fail> {
         return Err(Fail::from("the first is not lent twice"));
     };
     // A handle is closed only once, even while its listing is lent.
-    assert!(rt; dirs.retire(first));
+    let Some(last) = dirs.close(first) else {
+        return Err(Fail::from("the first is not closed"));
+    };
     assert!(rt; !dirs.retire(first));
+    assert_eq!(rt; last.listing().fh(), first);
     assert!(rt; dirs.lend(first).is_none());
     assert_eq!(rt; again.listing().fh(), first);
     assert_eq!(rt; lent.listing().number(), 1);
@@ -108,23 +114,37 @@ fn retire_all(dirs: &Dirs, handles: &[u64]) -> u64 {
     count
 }
 
-// If several calls close the same handle, exactly one gets true.
+/// The handles of so many folders with one name each. There is room for no more.
+fn full(alloc: Global, dirs: &Dirs) -> Result<Vec<u64>, Fail> {
+    let mut handles = Vec::new(alloc);
+    for _folder in 0..MANY {
+        handles.push(put(dirs, listing(alloc, ONE)?)?)?;
+    }
+    if dirs.put(listing(alloc, ONE)?).is_ok() {
+        return Err(Fail::from("there is room for one more"));
+    }
+    Ok(handles)
+}
+
+// If several calls close the same handle, exactly one gets true, over 20,000 handles. Each time there is as much room as
+// before: a count that was lowered twice for a folder would leave room for none, and one that was not for fewer.
 #[test]
-fn each_handle_is_given_up_once(rt: HostRuntime) -> Result<(), Fail> {
+fn each_handle_is_closed_once(rt: HostRuntime) -> Result<(), Fail> {
     let alloc = rt.alloc();
-    let dirs = Dirs::new(alloc)?;
+    let limits = FolderLimits {
+        folders: MANY,
+        names: MANY * 3,
+    };
+    let dirs = Dirs::with_limits(alloc, limits)?;
     for _round in 0..20 {
-        let mut handles = Vec::new(alloc);
-        for _folder in 0..1_000 {
-            handles.push(put(&dirs, listing(alloc, ONE)?)?)?;
-        }
+        let handles = full(alloc, &dirs)?;
         let (shared, all) = (&dirs, handles.as_slice());
         let counts = thread::map_indices(&rt, alloc, 4, &|_thread| retire_all(shared, all))?;
         let mut retired = 0u64;
         for count in &counts {
             retired = retired.saturating_add(*count);
         }
-        assert_eq!(rt; retired, 1_000);
+        assert_eq!(rt; retired, MANY);
     }
     Ok(())
 }

@@ -4,7 +4,7 @@ use crate::frames::{AGREED, INIT, LOOKUP_A, MAKE_M, bytes_of};
 use crate::host::Host;
 use crate::pipes::pipe;
 use crate::sample_folders::{Shown, expect, new_folder, place_of};
-use mirrord_programs::{Standard, run};
+use mirrord_programs::{LinuxDisks, Standard, run};
 use std::alloc::Global;
 use std::io;
 use std::io::{ErrorKind, Write};
@@ -88,7 +88,8 @@ fn told_by(
     let input = bytes_of(rt.alloc(), &[INIT, LOOKUP_A])?;
     let mut faults = Vec::new(rt.alloc());
     let standard = Standard::of_streams(input.as_slice(), Vec::new(rt.alloc()));
-    let ended = run(rt, host, words, standard, &mut faults);
+    let disks = LinuxDisks::new(rt.alloc());
+    let ended = run(rt, host, &disks, words, standard, &mut faults);
     let is_so = ended.output.is_empty() && faults.as_slice() == line.as_bytes();
     Ok((ended.status, is_so))
 }

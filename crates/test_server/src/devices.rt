@@ -3,7 +3,7 @@
 use crate::frames::{AGREED, ENTRY_A, INIT, LOOKUP_A, bytes_of};
 use crate::host::Host;
 use crate::sample_folders::{Shown, expect, new_folder};
-use mirrord_programs::{Device, Standard, run};
+use mirrord_programs::{Device, LinuxDisks, Standard, run};
 use std::alloc::Global;
 use std::io;
 use std::sync::{Arc, Mutex};
@@ -192,7 +192,8 @@ fn run_over<H: Host>(
         device,
     };
     let mut faults = Vec::new(rt.alloc());
-    let ended = run(rt, host, &words, standard, &mut faults);
+    let disks = LinuxDisks::new(rt.alloc());
+    let ended = run(rt, host, &disks, &words, standard, &mut faults);
     Outcome {
         status: ended.status,
         faults,

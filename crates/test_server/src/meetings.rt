@@ -9,7 +9,7 @@ use crate::frames::{
 };
 use crate::host::Host;
 use crate::sample_folders::{Shown, expect, new_folder, place_of, shown_at};
-use mirrord_programs::{Standard, run};
+use mirrord_programs::{LinuxDisks, Standard, run};
 use std::io::{Read, Write};
 use std::os::unix::net::UnixStream;
 use std::test::Fail;
@@ -104,8 +104,11 @@ pub fn be_client(rt: &impl Host, root: &str, path: &str, turns: &[Turn]) -> u64 
 /// The argument for a session on one thread.
 pub const ONE_THREAD: &str = "-s";
 
-/// That argument, and the one for four workers.
-const EITHER: &[&str] = &[ONE_THREAD, "--workers=4"];
+/// The argument for four workers.
+pub const WORKERS: &str = "--workers=4";
+
+/// Both.
+const EITHER: &[&str] = &[ONE_THREAD, WORKERS];
 
 /// Runs `serve`. Returns its status, and whether it wrote just that line.
 pub fn be_server(
@@ -122,7 +125,8 @@ pub fn be_server(
     ];
     let mut faults = Vec::new(rt.alloc());
     let standard = Standard::of_streams(b"".as_slice(), Vec::new(rt.alloc()));
-    let ended = run(rt, host, &words, standard, &mut faults);
+    let disks = LinuxDisks::new(rt.alloc());
+    let ended = run(rt, host, &disks, &words, standard, &mut faults);
     let is_told = faults.as_slice() == fault.as_bytes();
     (ended.status, is_told && ended.output.is_empty())
 }

@@ -6,7 +6,7 @@ use crate::frames::{
 };
 use crate::host::Host;
 use crate::sample_folders::{Shown, expect, new_folder};
-use mirrord_programs::{Standard, run};
+use mirrord_programs::{LinuxDisks, Standard, run};
 use std::io::Write;
 use std::test::Fail;
 
@@ -45,7 +45,8 @@ pub fn run_words<H: Host, O: Write + Drop>(
     let input = bytes_of(rt.alloc(), asks)?;
     let mut faults = Vec::new(rt.alloc());
     let standard = Standard::of_streams(input.as_slice(), output);
-    let ended = run(rt, host, words, standard, &mut faults);
+    let disks = LinuxDisks::new(rt.alloc());
+    let ended = run(rt, host, &disks, words, standard, &mut faults);
     Ok(Outcome {
         status: ended.status,
         output: ended.output,

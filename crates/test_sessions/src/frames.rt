@@ -1,7 +1,7 @@
 //! The frames that the tests send and the replies that they expect, in hexadecimal digits. Spaces are only for
 //! readability.
 
-use mirrord_programs::{DEFAULT_POSTINGS, Standard, hex_run, run};
+use mirrord_programs::{DEFAULT_POSTINGS, LinuxDisks, Standard, hex_run, run};
 use std::alloc::{AllocError, Global};
 use std::fs::File;
 use std::io;
@@ -176,7 +176,8 @@ pub fn run_words<
     let input = lines_of(alloc, lines)?;
     let mut faults = Vec::new(alloc);
     let standard = Standard::of_streams(input.as_slice(), Vec::new(alloc));
-    let ended = run(rt, host, words, standard, &mut faults);
+    let disks = LinuxDisks::new(rt.alloc());
+    let ended = run(rt, host, &disks, words, standard, &mut faults);
     Ok(Run {
         status: ended.status,
         output: ended.output,

@@ -66,6 +66,18 @@ const HIDDEN: &[Story] = &[
         ..NOTHING
     },
     Story {
+        says: "the input ends while a removed file is open",
+        asks: &[
+            (1, Lookup { name: "a" }),
+            (2, Open { flags: 0 }),
+            (1, Unlink { name: "a" }),
+        ],
+        replies: &[Entry(2, File(3)), Opened(1), Done],
+        after: &[(&["d"], Folder), (&["e"], File(0))],
+        names: Some(&["d", "e"]),
+        ..NOTHING
+    },
+    Story {
         says: "another file of its name has bytes of its own",
         asks: &[
             (1, Lookup { name: "a" }),

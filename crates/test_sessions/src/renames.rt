@@ -1,6 +1,6 @@
 //! Requests that rename, with their errors.
 
-use crate::requests::{MAKE_C, MAKE_X};
+use crate::requests::{MAKE_A, MAKE_B, MAKE_C, MAKE_X};
 use crate::stories::Says::{Attributes, Done, Entry, Failed};
 use crate::stories::Stands::{File, Folder, Nothing};
 use crate::stories::{NOTHING, Story, tell};
@@ -9,7 +9,7 @@ use errno::{EACCES, EINVAL, EIO, EISDIR, ENOENT, ENOTDIR, ENOTEMPTY, EPERM, ESTA
 use ledger::Blanks;
 use std::marker::Brand;
 use std::test::Fail;
-use wire::Operation::{GetAttr, Lookup, Rename};
+use wire::Operation::{GetAttr, Lookup, Rename, Unlink};
 
 /// Files and folders that are renamed.
 const RENAMES: &[Story] = &[
@@ -270,6 +270,77 @@ const MOVES_ONTO_OWN_FRONTS: &[Story] = &[
             Attributes(4, Folder),
         ],
         after: &[(&["d", "x", "c"], Folder)],
+        ..NOTHING
+    },
+    Story {
+        says: "a name is moved onto the first of the two folders above it",
+        asks: &[
+            (1, Unlink { name: "a" }),
+            (1, MAKE_A),
+            (2, MAKE_B),
+            (3, MAKE_C),
+            (
+                3,
+                Rename {
+                    name: "c",
+                    new_parent: 1,
+                    new_name: "a",
+                },
+            ),
+            (4, GetAttr),
+        ],
+        replies: &[
+            Done,
+            Entry(2, Folder),
+            Entry(3, Folder),
+            Entry(4, Folder),
+            Failed(ENOTEMPTY),
+            Attributes(4, Folder),
+        ],
+        after: &[(&["a", "b", "c"], Folder)],
+        ..NOTHING
+    },
+    Story {
+        says: "a file is moved onto its own folder and onto itself, and the folder below the file",
+        files: &[&["d", "b"]],
+        asks: &[
+            (1, Lookup { name: "d" }),
+            (2, Lookup { name: "b" }),
+            (
+                2,
+                Rename {
+                    name: "b",
+                    new_parent: 1,
+                    new_name: "d",
+                },
+            ),
+            (
+                1,
+                Rename {
+                    name: "d",
+                    new_parent: 2,
+                    new_name: "b",
+                },
+            ),
+            (
+                2,
+                Rename {
+                    name: "b",
+                    new_parent: 2,
+                    new_name: "b",
+                },
+            ),
+            (3, GetAttr),
+        ],
+        replies: &[
+            Entry(2, Folder),
+            Entry(3, File(0)),
+            Failed(ENOTEMPTY),
+            Failed(EINVAL),
+            Done,
+            Attributes(3, File(0)),
+        ],
+        after: &[(&["d"], Folder), (&["d", "b"], File(0))],
         ..NOTHING
     },
     Story {

@@ -42,6 +42,12 @@ pub const MAKE_A: Operation<'static> = MakeDir {
     umask: 0,
 };
 
+pub const MAKE_B: Operation<'static> = MakeDir {
+    name: "b",
+    mode: 0,
+    umask: 0,
+};
+
 pub const MAKE_X: Operation<'static> = MakeDir {
     name: "x",
     mode: 0,

@@ -6,7 +6,7 @@ ghost use Rattle.std.specs.Prelude.{◌≡◌};
 use crate::answers::replies_of;
 use crate::client::{Client, FIXED, serve_client};
 use backing::{Answer, Call, Calls, Kind, MemTree, PlannedFault};
-use engine::Served;
+use engine::{Served, SessionEnd};
 use handles::{Dirs, Folders};
 use ledger::{Blanks, Ledgers};
 use mirrord_programs::new_tree;
@@ -40,6 +40,8 @@ pub struct Story<'a> {
     pub replies: &'a [Says<'a>],
     /// Paths, and what is there at the end.
     pub after: &'a [(&'a [&'a str], Stands)],
+    /// All names in the root at the end, if it says them.
+    pub names: Option<&'a [&'a str]>,
 }
 
 /// What is at a path.
@@ -62,14 +64,17 @@ pub const NOTHING: Story = Story {
     faults: &[],
     replies: &[],
     after: &[],
+    names: None,
 };
 
-/// The story failed: whether its replies were as it says, and how many of its paths were.
+/// The story failed: whether its replies were as it says, how many of its paths were, and whether the input ended after
+/// a whole frame and the root has the names that it says.
 #[derive(Debug, Drop)]
 struct Otherwise<'a> {
     says: &'a str,
     are_replies: bool,
     stand: usize,
+    is_end: bool,
 }
 
 /// The reply to a request.
@@ -158,11 +163,12 @@ fn what_stands(alloc: Global, tree: &mut MemTree, names: &[&str]) -> Result<Stan
     })
 }
 
-fn fail_of(story: &Story, are_replies: bool, stand: usize) -> Fail {
+fn fail_of(story: &Story, are_replies: bool, stand: usize, is_end: bool) -> Fail {
     Otherwise {
         says: story.says,
         are_replies,
         stand,
+        is_end,
     }
     .into()
 }
@@ -173,7 +179,7 @@ fn tree_of(alloc: Global, story: &Story) -> Result<MemTree, Fail> {
     for names in story.files {
         let path = path_of(alloc, names)?;
         if tree.put_file(&path, b"").is_err() {
-            return Err(fail_of(story, false, 0));
+            return Err(fail_of(story, false, 0, false));
         }
     }
     for (call, fault) in story.faults {
@@ -191,6 +197,29 @@ fn stand_in(alloc: Global, tree: &mut MemTree, story: &Story) -> Result<usize, A
         }
     }
     Ok(stand)
+}
+
+/// Whether these are all names in the root, in any order.
+fn are_all(alloc: Global, tree: &mut MemTree, names: &[&str]) -> Result<bool, AllocError> {
+    let root = path_of(alloc, &[])?;
+    let Answer::Names(children) = tree.call(Call::List(&root)) else {
+        return Ok(false);
+    };
+    let mut found = 0usize;
+    for child in children.as_slice() {
+        if names.contains(&child.name.as_str()) {
+            found = found.saturating_add(1);
+        }
+    }
+    Ok(found == names.len() && found == children.as_slice().len())
+}
+
+/// Whether the names in the root are those that the story says, if it says them.
+fn are_named(alloc: Global, tree: &mut MemTree, story: &Story) -> Result<bool, AllocError> {
+    match story.names {
+        Some(names) => are_all(alloc, tree, names),
+        None => Ok(true),
+    }
 }
 
 /// Runs a story with these open folders. Fails if anything is unexpected.
@@ -214,7 +243,7 @@ fn tell_on<H: Wait + RandomSource, T: Ledgers, D: Folders + Drop>(
         files: story.open_files,
         ..Limits::default()
     };
-    serve_client::<H, T, D>(
+    let over = serve_client::<H, T, D>(
         rt,
         alloc,
         blanks,
@@ -226,10 +255,12 @@ fn tell_on<H: Wait + RandomSource, T: Ledgers, D: Folders + Drop>(
     let replies = replies_of(alloc, story.settings, story.replies)?;
     let are_replies = client.taken.as_slice() == replies.as_slice();
     let stand = stand_in(alloc, &mut served.calls, story)?;
-    if are_replies && stand == story.after.len() {
+    let is_end = over.end == SessionEnd::Closed { rest: 0 }
+        && are_named(alloc, &mut served.calls, story)?;
+    if are_replies && stand == story.after.len() && is_end {
         return Ok(());
     }
-    Err(fail_of(story, are_replies, stand))
+    Err(fail_of(story, are_replies, stand, is_end))
 }
 
 /// Runs a story. Fails if anything is unexpected.

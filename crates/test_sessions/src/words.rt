@@ -3,7 +3,7 @@
 use clap::error::ErrorKind;
 use engine::Settings;
 use mirrord_programs::{Options, read_options};
-use mirrord_server::{Bounds, Terms};
+use mirrord_server::{Bounds, Terms, Unserved};
 use std::test::Fail;
 use table::Counts;
 
@@ -189,4 +189,22 @@ fn bad_command_lines(rt: HostRuntime) {
             }
         }
     }
+}
+
+/// What each reason is worded as.
+const REASONS: &[(Unserved, &str)] = &[
+    (Unserved::NoFolder, "the folder cannot be opened"),
+    (Unserved::NoDescriptors, "/proc/self/fd cannot be used"),
+    (Unserved::NoSeed, "no random seed"),
+    (Unserved::NoSocket, "no client can be awaited at the path"),
+    (Unserved::Memory, "out of memory"),
+];
+
+#[test]
+fn why_nothing_was_served(rt: HostRuntime) -> Result<(), Fail> {
+    for (why, words) in REASONS {
+        let told = format!(in rt.alloc(); "{why}")?;
+        assert_eq!(rt; told.as_str(), *words);
+    }
+    Ok(())
 }

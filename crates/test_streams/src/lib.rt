@@ -8,6 +8,8 @@ mod devices;
 #[cfg(test)]
 mod held_back;
 #[cfg(test)]
+mod interrupted;
+#[cfg(test)]
 mod narrow;
 #[cfg(test)]
 mod polled;

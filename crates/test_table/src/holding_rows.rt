@@ -1,6 +1,6 @@
 //! Requests that hold names and wait for one another.
 
-use crate::story::Asks::{Move, Name, Node, Page, Remove};
+use crate::story::Asks::{Move, Name, Node, Page, Remove, Unlink};
 use crate::story::Posted::{Born, Entry};
 use crate::story::Spot::{At, Cut};
 use crate::story::Told::{Busy, Ended, Gave, Given, Go, NotGiven, Refused, Settled};
@@ -11,12 +11,14 @@ use std::test::Fail;
 use table::Limits;
 use table_image::ImageStage::{Answered, Working};
 
-/// The LOOKUP of a name waits for its removal, even if it has no node. Afterwards the directory does not have the name.
+/// The LOOKUP of a name waits for its removal, which may hide, even if it has no node. Afterwards the directory does not
+/// have the name.
 const AT_NO_NODE: Story = Story {
     limits: DEFAULT,
     steps: &[
-        Step::Begin(1, Remove(ROOT, "a"), Go),
+        Step::Begin(1, Unlink(ROOT, "a"), Go),
         Step::Begin(2, Name(ROOT, "a"), Busy),
+        Step::Holds(&[Holding("a", 0, 1)]),
         Step::Requests(&[Flying(1, Working, &[1])]),
         Step::Finish(1, Outcome::Done, Ended),
         Step::Begin(2, Name(ROOT, "a"), Go),

@@ -3,7 +3,7 @@
 ghost use Rattle.std.specs.Prelude.{◌≡◌};
 
 use engine::{LinkIn, LinkOut, Received, Sent};
-use std::alloc::Global;
+use std::alloc::{AllocError, Global};
 use std::sync::{Arc, Mutex, Wait};
 
 /// Sends its pieces one after another.
@@ -90,6 +90,20 @@ fn fate_in(fates: &[Sent], number: u32) -> Sent {
     }
 }
 
+/// The number in the last eight of these bytes, lowest byte first: at the end of a header, that of the request; eight
+/// bytes on in an entry, that of its node.
+pub fn last_of(bytes: &[u8]) -> u64 {
+    let Some(from) = bytes.len().checked_sub(16) else {
+        return 0;
+    };
+    let mut number = 0u64;
+    for i in 0..8 {
+        let byte = bytes[from + 15 - i];
+        number = number.wrapping_mul(256).wrapping_add(byte as u64);
+    }
+    number
+}
+
 /// What a client was asked for, and what it was offered.
 #[derive(Drop)]
 pub struct Heard {
@@ -101,6 +115,8 @@ pub struct Heard {
     pub entries: u32,
     /// The replies that were taken, one after another.
     pub bytes: Vec<u8>,
+    /// The nodes of those with an entry.
+    pub nodes: Vec<u64>,
 }
 
 /// Takes replies, or declines them.
@@ -120,6 +136,7 @@ impl Heard {
             offers: 0,
             entries: 0,
             bytes: Vec::new(alloc),
+            nodes: Vec::new(alloc),
         }
     }
 
@@ -138,10 +155,17 @@ impl Heard {
         if fate != Sent::Taken {
             return fate;
         }
-        match self.bytes.extend_from_slice(frame) {
+        match self.keep(frame) {
             Ok(()) => Sent::Taken,
             Err(_) => Sent::Broken,
         }
+    }
+
+    fn keep(&mut self, frame: &[u8]) -> Result<(), AllocError> {
+        if frame.len() == 144 {
+            self.nodes.push(last_of(&frame[..24]))?;
+        }
+        self.bytes.extend_from_slice(frame)
     }
 }
 

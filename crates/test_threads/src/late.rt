@@ -3,7 +3,7 @@
 ghost use Rattle.std.specs.Prelude.{◌≡◌};
 
 use crate::client::{Fates, Hears};
-use crate::teller::{Client, Comes, Story, check_over, client_of, holds_of};
+use crate::teller::{Client, Comes, Shows, Story, check_over, client_of, holds_of};
 use backing::{Answer, Call, Calls, Shared};
 use engine::{LinkOut, Sent, SessionEnd};
 use std::alloc::{AllocError, Global};
@@ -112,6 +112,7 @@ const FOUR: Story = Story {
     taken: 5,
     births: Some(1),
     totals: Some((4, 0, 0)),
+    shows: Shows::File,
 };
 
 // The thread that offers the reply to INIT is blocked until the other thread has read the later requests and made their

@@ -4,6 +4,8 @@
 #[cfg(test)]
 mod client;
 #[cfg(test)]
+mod gates;
+#[cfg(test)]
 mod late;
 #[cfg(test)]
 mod overlap;

@@ -1,7 +1,7 @@
 //! Two workers are in calls of the directory at the same time.
 
 use crate::client::Fates;
-use crate::teller::{Comes, Story, check_by, holds_of};
+use crate::teller::{Comes, Shows, Story, check_by, holds_of};
 use backing::{Answer, Call, Calls, Shared};
 use engine::SessionEnd;
 use std::alloc::{AllocError, Global};
@@ -12,7 +12,7 @@ use std::thread;
 use wire::Operation::{Destroy, Lookup, Unlink};
 
 /// How often a first call polls before it gives up.
-const LOOKS: u32 = 10_000_000;
+pub const LOOKS: u32 = 10_000_000;
 
 /// A handle to a tree. Its first call waits for the first call of another handle.
 #[derive(Drop)]
@@ -117,6 +117,7 @@ const SAME_NAME: Story = Story {
     taken: 3,
     births: None,
     totals: Some((0, 0, 0)),
+    shows: Shows::Nothing,
 };
 
 // One of them waits until the other is done.
@@ -129,7 +130,8 @@ fn a_request_waits_for_another(rt: HostRuntime) -> Result<(), Fail> {
     check_by(&rt, rt.alloc(), &SAME_NAME, trees)
 }
 
-const TWO: Story = Story {
+/// Its entries are of one node, which is born once.
+pub const TWO: Story = Story {
     says: "two entries by two workers at once",
     workers: 2,
     comes: Comes::Together,
@@ -142,6 +144,7 @@ const TWO: Story = Story {
     taken: 3,
     births: Some(1),
     totals: Some((2, 0, 0)),
+    shows: Shows::File,
 };
 
 #[test]

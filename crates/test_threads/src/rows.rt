@@ -1,11 +1,11 @@
 //! Sessions with 1, 2 and 4 workers, and with none and five.
 
 use crate::client::Fates;
-use crate::teller::{Comes, Story, check};
+use crate::teller::{Comes, Shows, Story, check};
 use engine::{Sent, SessionEnd};
 use std::test::Fail;
 use wire::Operation;
-use wire::Operation::{Destroy, Forget, Lookup};
+use wire::Operation::{Destroy, Forget, Lookup, Open, Unlink};
 
 /// Eight entries of one node.
 const EIGHT: &[(u64, Operation<'static>)] = &[
@@ -33,6 +33,7 @@ const NINE: Story = Story {
     taken: 9,
     births: None,
     totals: Some((8, 0, 0)),
+    shows: Shows::File,
 };
 
 const BY_ANY: &[Story] = &[
@@ -188,6 +189,19 @@ const ENDS: &[Story] = &[
         offers: 2,
         taken: 3,
         totals: Some((1, 0, 1)),
+        ..NINE
+    },
+    Story {
+        says: "an open file that is removed, whose hidden name goes at the end",
+        asks: &[
+            (1, Lookup { name: "a" }),
+            (2, Open { flags: 0 }),
+            (1, Unlink { name: "a" }),
+        ],
+        offers: 4,
+        taken: 4,
+        totals: Some((1, 0, 0)),
+        shows: Shows::Nothing,
         ..NINE
     },
 ];

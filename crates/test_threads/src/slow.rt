@@ -3,7 +3,7 @@
 ghost use Rattle.std.specs.Prelude.{◌≡◌};
 
 use crate::client::{Fates, Hears};
-use crate::teller::{Client, Comes, Story, check_over, client_of, holds_of};
+use crate::teller::{Client, Comes, Shows, Story, check_over, client_of, holds_of};
 use engine::{LinkOut, Sent, SessionEnd};
 use std::sync::Wait;
 use std::test::Fail;
@@ -49,6 +49,7 @@ const MANY: Story = Story {
     taken: 101,
     births: Some(1),
     totals: Some((100, 0, 0)),
+    shows: Shows::File,
 };
 
 #[test]

@@ -2,10 +2,10 @@
 
 ghost use Rattle.std.specs.Prelude.{◌≡◌};
 
-use crate::client::{Asks, Fates, Heard, Hears};
-use backing::{Calls, MemTree, Shared};
-use engine::{LinkOut, SessionEnd, Settings};
-use engine_threads::{Ended, serve_threads};
+use crate::client::{Asks, Fates, Heard, Hears, last_of};
+use backing::{Answer, Call, Calls, Child, MemTree, Shared};
+use engine::{LinkIn, LinkOut, Sent, SessionEnd, Settings};
+use engine_threads::{Account, Ended, Given, serve_threads};
 use paths::{Name, Path};
 use std::alloc::{AllocError, Global};
 use std::mem;
@@ -45,8 +45,21 @@ pub struct Story<'a> {
     pub taken: u64,
     /// How often a node is born. None if that depends on timing.
     pub births: Option<u64>,
-    /// Entries given, entries given back and entries forgotten, if the table was gathered.
+    /// Entries given, entries given back and entries forgotten, if the session was served.
     pub totals: Option<(u64, u64, u64)>,
+    /// What the directories show afterwards.
+    pub shows: Shows,
+}
+
+/// What a directory shows.
+#[derive(Clone, Copy, Debug, PartialEq, Eq)]
+pub enum Shows {
+    /// The file `a` alone, with its three bytes.
+    File,
+    /// Nothing.
+    Nothing,
+    /// Something else.
+    Other,
 }
 
 /// The result of a session.
@@ -58,11 +71,26 @@ pub struct Came {
     pub last: u64,
     pub workers: usize,
     pub taken: u64,
-    /// How many replies were returned by their queue, and whether a job was.
-    pub handed_back: (u64, bool),
+    /// How many jobs were put: so many whole frames came, without the one that ended the session and what came after it.
+    pub put: u64,
     /// If the story says how often a node is born.
     pub births: Option<u64>,
     pub totals: Option<(u64, u64, u64)>,
+    /// How many entries the client has.
+    pub kept: u64,
+    pub back: Back,
+}
+
+/// What comes back after a session, as it is then.
+#[derive(Clone, Copy, Debug, PartialEq, Eq)]
+pub struct Back {
+    /// Whether a receive from the link in asks this client.
+    pub receives: bool,
+    /// Whether this client takes one more reply from the link out.
+    pub takes: bool,
+    pub directories: usize,
+    /// How many of the directories show what the story says.
+    pub showing: usize,
 }
 
 pub const SETTINGS: Settings = Settings::Fixed { uid: 0, gid: 0 };
@@ -116,12 +144,17 @@ pub fn pieces_of(
     Ok(pieces)
 }
 
+/// The path of the file `a`.
+fn path_of_file(alloc: Global) -> Result<Path, AllocError> {
+    let mut names = Vec::new(alloc);
+    names.push(Name::copy_of(alloc, "a")?)?;
+    Path::from_names(names)
+}
+
 /// A tree with the file `a` of three bytes.
 pub fn tree_of(alloc: Global) -> Result<MemTree, AllocError> {
     let mut tree = MemTree::new(alloc);
-    let mut names = Vec::new(alloc);
-    names.push(Name::copy_of(alloc, "a")?)?;
-    match tree.put_file(&Path::from_names(names)?, b"abc") {
+    match tree.put_file(&path_of_file(alloc)?, b"abc") {
         Ok(()) => Ok(tree),
         Err(_) => Err(AllocError),
     }
@@ -152,22 +185,12 @@ fn summed(counts: &[u64]) -> u64 {
     sum
 }
 
-/// The number in the last header.
-fn last_of(bytes: &[u8]) -> u64 {
-    let Some(from) = bytes.len().checked_sub(16) else {
-        return 0;
-    };
-    let mut number = 0u64;
-    for i in 0..8 {
-        let byte = bytes[from + 15 - i];
-        number = number.wrapping_mul(256).wrapping_add(byte as u64);
-    }
-    number
-}
-
 /// The births, if the story says how many, and how many entries were given, given back and forgotten.
-fn totals_of(ended: &Ended, story: &Story<'_>) -> (Option<u64>, Option<(u64, u64, u64)>) {
-    let Some(account) = &ended.account else {
+fn totals_of(
+    account: &Option<Account>,
+    story: &Story<'_>,
+) -> (Option<u64>, Option<(u64, u64, u64)>) {
+    let Some(account) = account else {
         return (None, None);
     };
     let totals = account.sums.totals();
@@ -187,39 +210,117 @@ fn last_heard(heard: &Heard, story: &Story<'_>) -> u64 {
 }
 
 /// How many workers took jobs, and how many jobs they took in all.
-fn taken_of(ended: &Ended) -> (usize, u64) {
-    match &ended.account {
+fn taken_of(account: &Option<Account>) -> (usize, u64) {
+    match account {
         Some(account) => (account.taken.len(), summed(account.taken.as_slice())),
         None => (0, 0),
     }
 }
 
-/// How many replies of all threads were returned by their queue, and whether a job was.
-fn handed_back(ended: &Ended) -> (u64, bool) {
-    match &ended.account {
-        Some(account) => {
-            let passed = &account.passed;
-            let count = summed(passed.handed_back.as_slice());
-            (count, passed.is_job_handed_back)
-        }
-        None => (0, false),
+/// How many jobs were put, if the client has sent that many of its pieces: one for each whole frame that came before
+/// DESTROY.
+fn put_of(story: &Story<'_>, sent: usize) -> u64 {
+    if sent == 0 {
+        return 0;
     }
+    let mut put = 1u64;
+    for (_node, operation) in story.asks {
+        if matches!(operation, Operation::Destroy) {
+            return put;
+        }
+        if story.comes == Comes::Alone && put >= sent as u64 {
+            return put;
+        }
+        put = put.saturating_add(1);
+    }
+    put
 }
 
-fn came_of(ended: &Ended, heard: &Heard, story: &Story<'_>) -> Came {
-    let (births, totals) = totals_of(ended, story);
-    let (workers, taken) = taken_of(ended);
-    Came {
+/// What a directory shows.
+fn shown_by<C: Calls>(alloc: Global, calls: &mut C) -> Result<Shows, AllocError> {
+    let root = Path::from_names(Vec::new(alloc))?;
+    let Answer::Names(children) = calls.call(Call::List(&root)) else {
+        return Ok(Shows::Other);
+    };
+    let [Child { name, kind: _ }] = children.as_slice() else {
+        return Ok(if children.as_slice().is_empty() {
+            Shows::Nothing
+        } else {
+            Shows::Other
+        });
+    };
+    let Answer::Stat { size: 3, .. } = calls.call(Call::Stat(&path_of_file(alloc)?)) else {
+        return Ok(Shows::Other);
+    };
+    Ok(if name.as_str() == "a" {
+        Shows::File
+    } else {
+        Shows::Other
+    })
+}
+
+/// Uses once what came back: a receive, a reply, and a look at what each directory shows.
+fn use_back<H: Wait + Drop, O: LinkOut + Drop, C: Calls + Drop>(
+    rt: &H,
+    alloc: Global,
+    back: &mut Given<Asks<H>, O, C>,
+    heard: &Mutex<Heard>,
+    shows: Shows,
+) -> Result<Back, AllocError> {
+    let (receives, offers) = {
+        let heard = heard.lock(rt);
+        (heard.receives, heard.offers)
+    };
+    let _received = back.link_in.receive(&mut [0; 16]);
+    let sent = back.link_out.send(b"more");
+    let mut showing = 0usize;
+    for calls in &mut back.calls {
+        if shown_by(alloc, calls)? == shows {
+            showing = showing.saturating_add(1);
+        }
+    }
+    let heard = heard.lock(rt);
+    Ok(Back {
+        receives: heard.receives == receives.saturating_add(1),
+        takes: sent == Sent::Taken && heard.offers == offers.saturating_add(1),
+        directories: back.calls.len(),
+        showing,
+    })
+}
+
+/// The result of a session, of which this came back.
+fn came_of<H: Wait + Drop, O: LinkOut + Drop, C: Calls + Drop>(
+    rt: &H,
+    alloc: Global,
+    mut ended: Ended<Asks<H>, O, C>,
+    heard: &Mutex<Heard>,
+    story: &Story<'_>,
+) -> Result<Came, AllocError> {
+    let put = put_of(story, ended.back.link_in.given);
+    let (births, totals) = totals_of(&ended.account, story);
+    let (workers, taken) = taken_of(&ended.account);
+    let (is_read, offers, last, kept) = {
+        let heard = heard.lock(rt);
+        (
+            heard.receives > 0,
+            heard.offers,
+            last_heard(&heard, story),
+            heard.nodes.len() as u64,
+        )
+    };
+    Ok(Came {
         end: ended.end,
-        is_read: heard.receives > 0,
-        offers: heard.offers,
-        last: last_heard(heard, story),
+        is_read,
+        offers,
+        last,
         workers,
         taken,
-        handed_back: handed_back(ended),
+        put,
         births,
         totals,
-    }
+        kept,
+        back: use_back(rt, alloc, &mut ended.back, heard, story.shows)?,
+    })
 }
 
 /// The client of a story.
@@ -269,18 +370,13 @@ fn tell<
     let Ok(seeds) = Seeds::new(rt) else {
         return Err(AllocError);
     };
-    let ended = serve_threads(
-        rt,
-        alloc,
-        asks,
-        hears,
-        trees,
-        Limits::default(),
-        seeds,
-        SETTINGS,
-    );
-    let heard = heard.lock(rt);
-    Ok(came_of(&ended, &heard, story))
+    let given = Given {
+        link_in: asks,
+        link_out: hears,
+        calls: trees,
+    };
+    let ended = serve_threads(rt, alloc, given, Limits::default(), seeds, SETTINGS);
+    came_of(rt, alloc, ended, heard, story)
 }
 
 /// Serves a story with handles to one tree, and fails if the result differs.
@@ -317,9 +413,9 @@ pub fn check_over<
     trees: Vec<C>,
 ) -> Result<(), Fail> {
     let came = tell(rt, alloc, story, asks, hears, heard, trees)?;
-    let workers = match story.totals {
-        Some(_) => story.workers,
-        None => 0,
+    let (workers, kept) = match story.totals {
+        Some((entries, backs, _)) => (story.workers, entries.saturating_sub(backs)),
+        None => (0, 0),
     };
     let wanted = Came {
         end: story.end,
@@ -328,9 +424,16 @@ pub fn check_over<
         last: story.last,
         workers,
         taken: story.taken,
-        handed_back: (0, false),
+        put: story.taken,
         births: story.births,
         totals: story.totals,
+        kept,
+        back: Back {
+            receives: true,
+            takes: true,
+            directories: story.workers,
+            showing: story.workers,
+        },
     };
     if came == wanted {
         Ok(())

@@ -55,19 +55,22 @@ pub fn passes_of(
     requires gets { (view written.old).gets ≡ true }
     requires made { (view written.old).made ≡ 0 }
     requires known { length (view written.old).known ≡ 0 }
+    requires got { length (view written.old).got ≡ 0 }
     ensures read { IsSeatAt (sends_on jobs.now) read.new }
     ensures parts { (view read.new).parts + 1 ≡ (view read.old).parts }
     ensures reads { ((view read.new).put ≡ (view read.old).put) × ((view read.new).taken ≡ (view read.old).taken) }
     ensures written { IsSeatAt (sends_on replies.now) written.new }
     ensures gets { (view written.new).gets ≡ true }
     ensures known { length (view written.new).known ≡ 0 }
+    ensures got { length (view written.new).got ≡ 0 }
     ensures seats { IsSeatAt (sends_on jobs.now) result.job_pass × IsSeatAt (sends_on replies.now) result.reply_pass }
 {
     let job_pass = jobs.another::<Cut>(read);
     let reply_pass = replies.another::<Roles>(written);
     Passes {
         number: 0,
-        count: 0,
+        taken: 0,
+        put: 0,
         job_pass,
         reply_pass,
     }
@@ -75,9 +78,9 @@ pub fn passes_of(
 
 /// A worker with two jobs in its queue, and a reply queue whose receiver has been dropped.
 fn lone_worker<H: Wait + Clone + Drop>(rt: &H, alloc: Global) -> Result<Worker, AllocError> {
-    let (jobs, work, mut read) = bounded_with::<Option<Job>, Hand<Job>, Fair, Global>(alloc, 16)?;
+    let (jobs, work, mut read) = bounded_with::<Job, Hand<Job>, Fair, Global>(alloc, 16)?;
     let (replies, receiver, mut written) = bounded_with::<
-        Option<QueuedReply<JobReply>>,
+        QueuedReply<JobReply>,
         ReplyLane<JobReply>,
         InOrder,
         Global,
@@ -222,7 +225,7 @@ fn read_for_nobody<H: Wait + Clone + Drop>(
     rt: &H,
     alloc: Global,
 ) -> Result<(Option<SessionEnd>, Option<u64>), AllocError> {
-    let (jobs, work, read) = bounded_with::<Option<Job>, Hand<Job>, Fair, Global>(alloc, 16)?;
+    let (jobs, work, read) = bounded_with::<Job, Hand<Job>, Fair, Global>(alloc, 16)?;
     let mut reader = Reader::new(alloc, jobs, read)?;
     drop(work);
     let end = reader.turn(rt, &mut asks(rt, alloc)?);

@@ -44,9 +44,9 @@ fn both<H: Wait + Drop>(
     alloc: Global,
     mut asks: Asks<H>,
 ) -> Result<(Worker, Writer), AllocError> {
-    let (jobs, work, mut read) = bounded_with::<Option<Job>, Hand<Job>, Fair, Global>(alloc, 16)?;
+    let (jobs, work, mut read) = bounded_with::<Job, Hand<Job>, Fair, Global>(alloc, 16)?;
     let (replies, receiver, mut written) = bounded_with::<
-        Option<QueuedReply<JobReply>>,
+        QueuedReply<JobReply>,
         ReplyLane<JobReply>,
         InOrder,
         Global,

@@ -14,6 +14,7 @@ use crate::put::{len_and, put_low_u32, put_u32, put_u64, put_zeros, word};
 use crate::reply::{REPLY_HEADER_LEN, Reply, ReplyBody};
 use crate::request::{HEADER_LEN, Request};
 use crate::writing::{Row, put_parts, request_len, row_of};
+use byteorder::{ByteOrder, LittleEndian};
 use std::alloc::AllocError;
 
 #[tactic(auto, using(crate::proofs::Lengths::lengths), unfolding(crate::specs::Written::request_bytes))]
@@ -101,9 +102,11 @@ pub fn encode_reply(reply: &Reply, out: &mut Vec<u8>) -> Result<(), AllocError>
 fn data_header(len: usize, unique: u64) -> [u8; 16]
     ensures { result ≡ le 4 len ++ (le 4 0 ++ le 8 unique) }
 {
-    let [a, b, c, d, ..] = len.to_le_bytes();
-    let [e, f, g, h, i, j, k, l] = unique.to_le_bytes();
-    [a, b, c, d, 0, 0, 0, 0, e, f, g, h, i, j, k, l]
+    let mut header = [0; 16];
+    LittleEndian::write_u64(&mut header, len as u64);
+    LittleEndian::write_u32(&mut header[4..], 0);
+    LittleEndian::write_u64(&mut header[8..], unique);
+    header
 }
 
 /// Writes a reply into the vector and replaces what was there. The data that it carries is not copied if the room
@@ -138,7 +141,9 @@ pub fn error_frame(unique: u64, errno: i32) -> [u8; 16]
     ensures failed { IsErrno errno → IsReply result (record { unique = unique; body = Failed errno }) }
     ensures done { errno ≡ pos 0 → IsReply result (record { unique = unique; body = Done }) }
 {
-    let [a, b, c, d] = negated(errno).to_le_bytes();
-    let [e, f, g, h, i, j, k, l] = unique.to_le_bytes();
-    [16, 0, 0, 0, a, b, c, d, e, f, g, h, i, j, k, l]
+    let mut frame = [0; 16];
+    LittleEndian::write_u32(&mut frame, 16);
+    LittleEndian::write_u32(&mut frame[4..], negated(errno));
+    LittleEndian::write_u64(&mut frame[8..], unique);
+    frame
 }

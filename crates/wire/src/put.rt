@@ -3,6 +3,8 @@
 ghost use Rattle.std.specs.Prelude.{◌≡◌, ◌≤◌, ◌+◌, ◌*◌, ◌++◌, ◌∷◌, [], length, vec_len, vec_capacity};
 ghost use Rattle.wire.specs.Written.{le, zeros, joined, u16s, u32s};
 
+use byteorder::{ByteOrder, LittleEndian};
+
 pub fn put(out: &mut Vec<u8>, bytes: &[u8])
     requires { vec_len out.old + length bytes.now ≤ vec_capacity out.old }
     ensures items { out.new.items ≡ out.old.items ++ bytes.now }
@@ -19,7 +21,9 @@ pub fn put_u16(out: &mut Vec<u8>, n: u16)
     ensures len { vec_len out.new ≡ vec_len out.old + 2 }
     ensures capacity { vec_capacity out.old ≤ vec_capacity out.new }
 {
-    put(out, &n.to_le_bytes());
+    let mut bytes = [0; 2];
+    LittleEndian::write_u16(&mut bytes, n);
+    put(out, &bytes);
 }
 
 #[tactic(auto, unfolding(crate::specs::Written::le))]
@@ -29,7 +33,9 @@ pub fn put_u32(out: &mut Vec<u8>, n: u32)
     ensures len { vec_len out.new ≡ vec_len out.old + 4 }
     ensures capacity { vec_capacity out.old ≤ vec_capacity out.new }
 {
-    put(out, &n.to_le_bytes());
+    let mut bytes = [0; 4];
+    LittleEndian::write_u32(&mut bytes, n);
+    put(out, &bytes);
 }
 
 /// The lowest four bytes of a number.
@@ -40,8 +46,7 @@ pub fn put_low_u32(out: &mut Vec<u8>, n: usize)
     ensures len { vec_len out.new ≡ vec_len out.old + 4 }
     ensures capacity { vec_capacity out.old ≤ vec_capacity out.new }
 {
-    let [a, b, c, d, ..] = n.to_le_bytes();
-    put(out, &[a, b, c, d]);
+    put(out, &word(n as u64)[..4]);
 }
 
 #[tactic(auto, unfolding(crate::specs::Written::le))]
@@ -51,7 +56,7 @@ pub fn put_u64(out: &mut Vec<u8>, n: u64)
     ensures len { vec_len out.new ≡ vec_len out.old + 8 }
     ensures capacity { vec_capacity out.old ≤ vec_capacity out.new }
 {
-    put(out, &n.to_le_bytes());
+    put(out, &word(n));
 }
 
 /// A number as a word of eight bytes.
@@ -59,7 +64,9 @@ pub fn put_u64(out: &mut Vec<u8>, n: u64)
 pub fn word(n: u64) -> [u8; 8]
     ensures { result ≡ le 8 n }
 {
-    n.to_le_bytes()
+    let mut bytes = [0; 8];
+    LittleEndian::write_u64(&mut bytes, n);
+    bytes
 }
 
 /// Two four-byte numbers as one word of eight bytes.
@@ -67,9 +74,10 @@ pub fn word(n: u64) -> [u8; 8]
 pub fn pair(first: u32, second: u32) -> [u8; 8]
     ensures { result ≡ le 4 first ++ le 4 second }
 {
-    let [a, b, c, d] = first.to_le_bytes();
-    let [e, f, g, h] = second.to_le_bytes();
-    [a, b, c, d, e, f, g, h]
+    let mut bytes = [0; 8];
+    LittleEndian::write_u32(&mut bytes, first);
+    LittleEndian::write_u32(&mut bytes[4..], second);
+    bytes
 }
 
 /// The lowest four bytes of a length, and a four-byte number, as one word of eight bytes.
@@ -77,9 +85,9 @@ pub fn pair(first: u32, second: u32) -> [u8; 8]
 pub fn len_and(len: usize, number: u32) -> [u8; 8]
     ensures { result ≡ le 4 len ++ le 4 number }
 {
-    let [a, b, c, d, ..] = len.to_le_bytes();
-    let [e, f, g, h] = number.to_le_bytes();
-    [a, b, c, d, e, f, g, h]
+    let mut bytes = word(len as u64);
+    LittleEndian::write_u32(&mut bytes[4..], number);
+    bytes
 }
 
 /// Words of eight bytes, appended at once.

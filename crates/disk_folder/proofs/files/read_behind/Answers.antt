@@ -1,4 +1,4 @@
-use Rattle.std.proofs.Common.{ℕ, ◌≡◌, ◌≤◌, ◌+◌, ◌-◌, ◌∙◌, List, length, take, drop, ap, sym, arith}
+use Rattle.std.proofs.Common.{ℕ, ◌≡◌, ◌≤◌, ◌+◌, ◌-◌, ◌∙◌, List, length, take, drop, ap, arith}
 use Rattle.std.proofs.lemmas.List.{length-take-le, length-take, length-drop}
 use borrow.Rule.Slice.PartMut.{post_of}
 use Rattle.backing.specs.declared.call.Answer.TheVariants.{Bytes}

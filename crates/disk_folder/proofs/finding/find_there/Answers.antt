@@ -1,8 +1,7 @@
 use Rattle.std.proofs.Common.{IfOk, sym, subst}
-use Rattle.std.proofs.lemmas.List.{nil_from_length}
 use Rattle.paths.specs.Prefixes.{Names}
-use Rattle.disk_folder.specs.Standing.{IsFileAt, IsHeldAt}
-use Rattle.disk_folder.proofs.SeenLemmas.{entry_no_file, root_no_file}
+use Rattle.disk_folder.specs.Standing.{IsFileAt}
+use Rattle.disk_folder.proofs.SeenLemmas.{entry_no_file}
 use Rattle.disk_folder.proofs.finding.find_there.Goals as goal
 
 pub returns-in-Ok-clause-ok : goal.returns-in-Ok-clause-ok

@@ -1,16 +1,16 @@
-use Rattle.std.proofs.Common.{◌≡◌, ◌<◌, ◌≤◌, ◌+◌, ℕ, suc, List, [], ◌∷◌, ◌++◌, length, map, vec_len, refl, sym, ap, ◌∙◌, subst, arith, length-append, append-nil}
-use Rattle.std.specs.List.{All, flat_map, range_with_len}
+use Rattle.std.proofs.Common.{◌≡◌, ℕ, suc, List, [], ◌∷◌, ◌++◌, length, map, refl, sym, ap, ◌∙◌, arith, length-append}
+use Rattle.std.specs.List.{flat_map, range_with_len}
 use Rattle.std.specs.Vec.Iter.{into_iter_items, into_iter_len}
 use Rattle.std.proofs.lemmas.List.Elements.{All-same, All-rest}
 use Rattle.crossbeam_channel.specs.Claims.{view, IsSeatAt}
 use Rattle.crossbeam_channel.specs.Ends.{sends_on}
 use Rattle.engine_queues.specs.Gathered.{numbers_of, puts_of, takings_of}
-use Rattle.engine_queues.specs.Totals.{items_of}
 use Rattle.engine_queues.specs.declared.jobs.Hand.{Hand}
 use Rattle.engine_queues.specs.declared.replies.ReplyLane.{ReplyLane}
 use Rattle.engine_queues.specs.declared.passes.Passes.{Passes}
 use Rattle.engine_queues.proofs.JobSteps as jobs
 use Rattle.engine_queues.proofs.ReplySteps as queued_replies
+use Rattle.engine_queues.proofs.Counting.{all_got, all_taken}
 use Rattle.engine_queues.proofs.Putting.{all_accounts, all_whole, back_none, ended_one, ended_some, front_none, next_numbers, none_of, one_more, some_more}
 use Rattle.engine_queues.proofs.gathering.gather.Goals as goal
 
@@ -87,7 +87,7 @@ returns-clause-jobs g c =
     let j = c.learn_as.ensures.rule in
     let e : length (into_iter_items c.loop-passes.passes-iterator) ≡ 0 = (let s = c.in-None.ensures.steps in let l = i.lens in omega arith) in
     let none : length (takings_of (into_iter_items c.loop-passes.passes-iterator)) ≡ 0 = ap (λ (ps : List (Passes g.row.J.Denot g.row.M.Denot)). length (takings_of ps)) (none_of _ e) in
-    (items_of j.0, all_accounts _ _ _ _ _ i.put (ended_some _ _ _ none i.took) j.1)
+    all_taken _ _ j.0 c.requires.all_taken (all_accounts _ _ _ _ _ i.put (ended_some _ _ _ none i.took) j.1)
 
 pub returns-clause-replies : goal.returns-clause-replies
 returns-clause-replies g c =
@@ -95,4 +95,4 @@ returns-clause-replies g c =
     let j = c.learn_as-2.ensures.rule in
     let e : length (into_iter_items c.loop-passes.passes-iterator) ≡ 0 = (let s = c.in-None.ensures.steps in let l = i.lens in omega arith) in
     let none : length (puts_of (into_iter_items c.loop-passes.passes-iterator)) ≡ 0 = ap (λ (ps : List (Passes g.row.J.Denot g.row.M.Denot)). length (puts_of ps)) (none_of _ e) in
-    (items_of j.0, all_whole _ _ _ _ _ (ended_one _ _ _ none i.known) i.got j.1)
+    all_got _ _ j.0 c.requires.all_got (all_whole _ _ _ _ _ (ended_one _ _ _ none i.known) i.got j.1)

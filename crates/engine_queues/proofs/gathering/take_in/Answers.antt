@@ -1,4 +1,4 @@
-use Rattle.std.proofs.Common.{sym, ◌∙◌}
+use Rattle.std.proofs.Common.{◌∙◌}
 use Rattle.engine_queues.proofs.JobSteps as jobs
 use Rattle.engine_queues.proofs.ReplySteps as queued_replies
 use Rattle.engine_queues.proofs.gathering.take_in.Goals as goal

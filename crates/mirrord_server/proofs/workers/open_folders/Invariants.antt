@@ -2,4 +2,4 @@ use Rattle.std.specs.Prelude.{◌≡◌, ◌≤◌, replicate, vec_len, vec_capa
 use Rattle.mirrord_server.proofs.workers.open_folders.Given as goal
 
 abbrev pub invariant-loop-opened : goal.invariant-loop-opened
-invariant-loop-opened l = record { unused : l.folders.items ≡ replicate l.opened 0; len : vec_len l.folders ≡ l.opened; room : l.workers ≤ vec_capacity l.folders }
+invariant-loop-opened g l = record { unused : l.folders.items ≡ replicate l.opened 0; len : vec_len l.folders ≡ l.opened; room : l.workers ≤ vec_capacity l.folders }

@@ -16,7 +16,6 @@ returns g c = inl (record {
   last = world_of c.serve-end.new.table;
   dirs = _;
   limits_are = c.requires.limits;
-  left = c.serve-end.new.served.calls;
   dirs_left = c.serve-end.new.served.dirs;
   run = c.serve-end.ensures.serves;
   hidden = c.serve-end.ensures.hidden (subst (λ (w : World). KeepsHidden w) (sym c.in-Ok.ensures.opened) (opened_keeps _));

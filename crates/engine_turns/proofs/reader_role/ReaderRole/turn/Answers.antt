@@ -8,11 +8,12 @@ use Rattle.engine_turns.proofs.reader_role.ReaderRole.turn.Goals as goal
 pub invariant_of-self : goal.invariant_of-self
 invariant_of-self g c =
     let s = c.args.self.now in
-    let n = c.turn-self.new in
+    let n = c.turn-end.new in
     let now = reading s.link s.reader in
     record {
-      queue = s.queue ∙ ap (λ q. Some q) (sym c.turn-self.ensures.queue);
-      parts = (let a = s.parts in let b = c.turn-self.ensures.parts in omega arith);
-      read = has_read_on g.I.LinkIn.receives g.S.Source.heard_from now (reading n.link n.self) c.turn-self.result
-          (subst (λ (o : Option SessionEnd). ∥ HasRead g.I.LinkIn.receives g.S.Source.heard_from o now ∥₁) c.in-None.is s.read) c.turn-self.ensures.reads;
+      queue = s.queue ∙ ap (λ q. Some q) (sym c.turn-end.ensures.queue);
+      parts = (let a = s.parts in let b = c.turn-end.ensures.parts in omega arith);
+      none_back = c.wait_if_returned.ensures;
+      read = has_read_on g.I.LinkIn.receives g.S.Source.heard_from now (reading n.link n.self) c.turn-end.result
+          (subst (λ (o : Option SessionEnd). ∥ HasRead g.I.LinkIn.receives g.S.Source.heard_from o now ∥₁) c.in-None.is s.read) c.turn-end.ensures.reads;
     }

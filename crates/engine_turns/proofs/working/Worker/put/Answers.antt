@@ -9,7 +9,8 @@ use Rattle.engine_turns.specs.TableCalls.{left_in, on_table_of, turn_end_of}
 use Rattle.engine_turns.specs.ReplyBuffers.{bytes_in}
 use Rattle.engine_turns.specs.Turns.{IsEnded, ended_as, ending, handed_back, is_put, none, outbox}
 use Rattle.engine_queues.specs.declared.left.Left.{Left}
-use Rattle.engine_turns.proofs.Answering.{left_by, none_more}
+use Rattle.engine_queues.specs.declared.replies.QueuedReply.{QueuedReply}
+use Rattle.engine_turns.proofs.Answering.{none_more}
 use Rattle.engine_turns.proofs.working.Worker.put.Goals as goal
 
 pub returns-in_default-clause-puts : goal.returns-in_default-clause-puts
@@ -31,10 +32,10 @@ returns-in-Ok-clause-puts g c =
           (ap (λ (l : ReplyLane JobReply). outbox l c.args.self.now.handed_back) c.in-Ok.ensures.rule) c.parted-left.ensures.settled refl refl;
     }
 
-pub returns-in-Some-into_inner-clause-puts : goal.returns-in-Some-into_inner-clause-puts
-returns-in-Some-into_inner-clause-puts g c =
-    let back = sym c.in-Some-into_inner.is ∙ (c.into_inner.ensures ∙ c.in-Err.ensures.rule.0) in
-    let left : c.into_left-left.result ≡ left_in (turn_end_of c.args.turn_result) = c.into_left-left.ensures ∙ (ap left_by back ∙ (c.reply_to.ensures.3 ∙ c.parted-left.ensures.left)) in
+pub returns-in-Err-clause-puts : goal.returns-in-Err-clause-puts
+returns-in-Err-clause-puts g c =
+    let back = c.into_inner-reply.ensures ∙ c.in-Err.ensures.rule.0 in
+    let left : c.into_left-left.result ≡ left_in (turn_end_of c.args.turn_result) = c.into_left-left.ensures ∙ (ap (λ (q : QueuedReply JobReply). q.reply.left) back ∙ (c.reply_to.ensures.3 ∙ c.parted-left.ensures.left)) in
     let up = c.settle_left-untaken.ensures.ends in
     let so = subst (λ (o : Option Left). IsEnded o false (ending c.settle_left-untaken.result up.folders up.calls)) left up.so in
     record {

@@ -12,11 +12,11 @@ loop-preserved g c =
     let l = c.loop in
     let i = l.invariant in
     let p = c.put.ensures in
-    let rule = rw c.in-Ok-Some.field-0-is at c.in-Ok-Some.ensures.rule in
+    let rule = c.in-Ok.ensures.rule in
     record {
       queue = i.queue;
       made = ap (λ v. v.made) rule ∙ i.made;
-      gets = gets_more (view c.args.self.now.pass) (view l.self.pass) (view c.try_recv_as.new.pass) l.self.batch.left.items c.put.new.self.left.items l.self.batch.bytes.items c.put.new.self.bytes.items c.in-Ok-Some.queued_reply
+      gets = gets_more (view c.args.self.now.pass) (view l.self.pass) (view c.try_recv_as.new.pass) l.self.batch.left.items c.put.new.self.left.items l.self.batch.bytes.items c.put.new.self.bytes.items c.in-Ok.queued_reply
           i.gets rule p.left p.bytes;
       few = (let a = p.len.0 in let b = i.few in omega arith);
       same = (let a = p.len.1 in let b = p.len.0 in omega arith);

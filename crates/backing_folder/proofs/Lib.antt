@@ -1,3 +1,0 @@
-pub mod Witnesses
-pub mod RouteLemmas
-pub mod Passing

@@ -1,9 +1,0 @@
-pub mod Explained
-pub mod Contents
-pub mod Parts
-pub mod HostErrors
-pub mod Routes
-pub mod Counting
-pub mod Caches
-pub mod Same
-pub mod OpenFiles

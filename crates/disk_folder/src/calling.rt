@@ -1,0 +1,182 @@
+//! One call of a folder, from its begin to what is told of it.
+
+ghost use Rattle.std.specs.Prelude.{◌≡◌, ◌⊎◌, None, IfOk};
+ghost use Rattle.paths.specs.Prefixes.{Names};
+ghost use Rattle.path_cache.specs.Cache.{kept_at};
+ghost use Rattle.backing.specs.Calls.{asked};
+ghost use Rattle.disk_folder.specs.Attributes.{Lasts};
+ghost use Rattle.disk_folder.specs.Ends.{Ends};
+ghost use Rattle.backing.specs.declared.call.Answer.TheVariants.{Fault};
+ghost use Rattle.disk_folder.specs.Explained.{Follows, IsUnserved};
+ghost use Rattle.disk_folder.specs.Troubles.{reason_errno};
+ghost use Rattle.disk_folder.specs.Gives.{IsTold, IsUndone};
+ghost use Rattle.disk_folder.specs.Remembered.{IsListed};
+ghost use Rattle.disk_folder.specs.Standing.{AllStand};
+ghost use Rattle.disk_folder.specs.Suits.{Suits};
+
+use crate::attributes::{set, sync};
+use crate::explained::is_explained;
+use crate::files::{read, set_len, write};
+use crate::listed::Listed;
+use crate::listing::list;
+use crate::making::{make, make_dir};
+use crate::moving::{rename, rename_new};
+use crate::open_cache::OpenCache;
+use crate::removing::{remove, remove_dir};
+use crate::stat::stat;
+use crate::trouble::{Reason, Trouble};
+use backing::{Answer, Call, Told};
+use disk::{Change, Disk};
+use errno::EINVAL;
+
+/// How many files and folders the call may come to keep open.
+fn names_of(call: Call<'_>) -> usize {
+    match call {
+        Call::Stat(path)
+        | Call::List(path)
+        | Call::Make { path, .. }
+        | Call::MakeDir { path, .. }
+        | Call::Remove(path)
+        | Call::RemoveDir(path)
+        | Call::Read { path, .. }
+        | Call::Write { path, .. }
+        | Call::SetLen { path, .. }
+        | Call::Sync(path)
+        | Call::SetPermissions { path, .. }
+        | Call::SetOwner { path, .. }
+        | Call::SetTimes { path, .. } => path.len(),
+        Call::Rename { from, to } | Call::RenameNew { from, to } => {
+            from.len().saturating_add(to.len())
+        }
+        Call::Exchange { .. } => 0,
+    }
+}
+
+/// Reads the clock, hears whether others have moved names, and makes room for what the call may open.
+pub fn begin<D: Disk>(disk: &D, cache: &mut OpenCache<D::Handle>, call: Call<'_>)
+    ensures { (p : Names) → (kept_at cache.new.cache p ≡ kept_at cache.old.cache p) ⊎ (kept_at cache.new.cache p ≡ None) }
+{
+    cache.time = disk.now();
+    let moves = disk.moves();
+    if moves != cache.moves {
+        cache.moves = moves;
+        cache.epoch = cache.epoch.wrapping_add(1);
+    }
+    cache.make_room(names_of(call));
+}
+
+/// Whether it moves a name or removes a folder, once it is done.
+fn is_move(call: Call<'_>) -> bool {
+    matches!(
+        call,
+        Call::RemoveDir(_) | Call::Rename { .. } | Call::RenameNew { .. }
+    )
+}
+
+/// A move of our own, if that is all that was counted since the call began, is no reason to look once more at what is kept.
+pub fn note_own<D: Disk>(
+    disk: &D,
+    cache: &mut OpenCache<D::Handle>,
+    call: Call<'_>,
+    ended: &Result<Answer, Trouble>,
+)
+    ensures { cache.new.cache ≡ cache.old.cache }
+{
+    if !is_move(call) || ended.is_err() {
+        return;
+    }
+    let moves = disk.moves();
+    if moves == cache.moves.wrapping_add(1) {
+        cache.moves = moves;
+    }
+}
+
+/// What the disk answers and does.
+pub fn perform<D: Disk>(
+    disk: &mut D,
+    cache: &mut OpenCache<D::Handle>,
+    listed: &mut Option<Listed>,
+    spare: &mut Vec<u8>,
+    call: Call<'_>,
+) -> Result<Answer, Trouble>
+    ensures suits { IfOk result (Suits (asked call.entry)) }
+    ensures undone { IsUndone (asked call.entry) result }
+    ensures ends { AllStand (D.tree disk.old) (D.stands disk.old) cache.old → IsListed (D.tree disk.old) listed.old → Ends (D.tree disk.old) (asked call.entry) result (D.tree disk.new) }
+    ensures stand { AllStand (D.tree disk.old) (D.stands disk.old) cache.old → AllStand (D.tree disk.new) (D.stands disk.new) cache.new }
+    ensures listed { AllStand (D.tree disk.old) (D.stands disk.old) cache.old → IsListed (D.tree disk.old) listed.old → IsListed (D.tree disk.new) listed.new }
+    ensures lasts { AllStand (D.tree disk.old) (D.stands disk.old) cache.old → IfOk result (λ _. Lasts (D.has_set disk.new) (D.has_synced disk.new) (asked call.entry)) }
+{
+    match call {
+        Call::Stat(path) => stat(disk, cache, listed, path),
+        Call::List(path) => list(disk, cache, listed, path),
+        Call::Read { path, offset, size } => read(disk, cache, spare, path, offset, size),
+        Call::Sync(path) => sync(disk, cache, path),
+        Call::Make { path, permissions } => make(disk, cache, listed, path, permissions),
+        call => {
+            *listed = None;
+            perform_change(disk, cache, call)
+        }
+    }
+}
+
+/// The same for what changes something.
+fn perform_change<D: Disk>(
+    disk: &mut D,
+    cache: &mut OpenCache<D::Handle>,
+    call: Call<'_>,
+) -> Result<Answer, Trouble>
+    ensures suits { IfOk result (Suits (asked call.entry)) }
+    ensures undone { IsUndone (asked call.entry) result }
+    ensures ends { AllStand (D.tree disk.old) (D.stands disk.old) cache.old → Ends (D.tree disk.old) (asked call.entry) result (D.tree disk.new) }
+    ensures stand { AllStand (D.tree disk.old) (D.stands disk.old) cache.old → AllStand (D.tree disk.new) (D.stands disk.new) cache.new }
+    ensures lasts { AllStand (D.tree disk.old) (D.stands disk.old) cache.old → IfOk result (λ _. Lasts (D.has_set disk.new) (D.has_synced disk.new) (asked call.entry)) }
+{
+    match call {
+        Call::MakeDir { path, permissions } => make_dir(disk, cache, path, permissions),
+        Call::Remove(path) => remove(disk, cache, path),
+        Call::RemoveDir(path) => remove_dir(disk, cache, path),
+        Call::Rename { from, to } => rename(disk, cache, from, to),
+        Call::RenameNew { from, to } => rename_new(disk, cache, from, to),
+        Call::Write { path, offset, data } => write(disk, cache, path, offset, data),
+        Call::SetLen { path, size } => set_len(disk, cache, path, size),
+        Call::SetPermissions { path, permissions } => {
+            set(disk, cache, path, Change::Permissions(permissions))
+        }
+        Call::SetOwner { path, uid, gid } => set(disk, cache, path, Change::Owner { uid, gid }),
+        Call::SetTimes {
+            path,
+            accessed,
+            modified,
+        } => set(disk, cache, path, Change::Times { accessed, modified }),
+        _ => Err(Trouble::Failed(EINVAL)),
+    }
+}
+
+/// What is told of it: no failure where the call was done, or where what was found explains its error.
+pub fn conclude(call: Call<'_>, ended: Result<Answer, Trouble>) -> Told
+    requires suits { IfOk ended (Suits (asked call)) }
+    requires undone { IsUndone (asked call) ended }
+    ensures told { IsTold ended result }
+    ensures follows { Follows (asked call.entry) result.failed result.answer }
+    ensures unserved { IsUnserved (asked call.entry) result.failed result.answer }
+{
+    match ended {
+        Ok(answer) => Told {
+            answer,
+            failed: false,
+        },
+        Err(Trouble::Refused(reason)) => refuse(call, reason),
+        Err(Trouble::Failed(errno)) => Told::failure(errno),
+    }
+}
+
+/// A refusal, which is a failure unless some tree explains it.
+fn refuse(call: Call<'_>, reason: Reason) -> Told
+    ensures answer { result.answer ≡ Fault (reason_errno reason) }
+    ensures follows { Follows (asked call.entry) result.failed result.answer }
+{
+    Told {
+        answer: Answer::Fault(reason.errno()),
+        failed: !is_explained(call, reason),
+    }
+}

@@ -1,0 +1,10 @@
+use Rattle.std.specs.Prelude.{◌≡◌, ◌+◌, ◌<◌, ◌^◌, length, drop}
+use Rattle.std.specs.List.{flat_map}
+use Rattle.engine_queues.specs.Gathered.{puts_of}
+use Rattle.engine_queues.proofs.gathering.put_by.Given as goal
+
+abbrev pub invariant-loop-worker : goal.invariant-loop-worker
+invariant-loop-worker g l = record {
+  sum : l.sum + length (flat_map (λ xs. xs) (puts_of (drop l.worker-index l.passes))) ≡ length (flat_map (λ xs. xs) (puts_of l.passes));
+  small : l.sum < 2 ^ 64;
+}

@@ -1,5 +1,0 @@
-use Rattle.engine_queues.proofs.ReplySteps.{begins}
-use Rattle.engine_threads.proofs.queue_ends.reply_queue.Goals as goal
-
-pub bounded_with-requires-clause-rule : goal.bounded_with-requires-clause-rule
-bounded_with-requires-clause-rule c = begins

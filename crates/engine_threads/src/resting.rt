@@ -1,0 +1,103 @@
+//! How a thread sleeps that finds nothing to do.
+
+use crate::session_state::Common;
+use engine::{LinkIn, LinkOut};
+use engine_turns::{Sink, Source};
+use ledger::Ledgers;
+use std::sync::Wait;
+use std::sync::atomic::Ordering;
+use table_shared::Opening;
+
+/// How close to sleeping a thread is that finds nothing to do.
+#[derive(Drop)]
+pub struct Rest {
+    number: usize,
+    /// Whether it has announced that it will sleep.
+    is_lying: bool,
+    /// Whether it has slept, and has done nothing since.
+    has_slept: bool,
+    /// How many receives had been made when it last slept.
+    seen: u64,
+    /// How often it has looked in vain since it did something or slept.
+    looks: u32,
+}
+
+/// How often a thread looks in vain before it sleeps, while requests are waiting to be received: being put to sleep and
+/// woken takes longer.
+const LOOKS: u32 = 200;
+
+impl Rest {
+    pub fn new(number: usize) -> Rest {
+        Rest {
+            number,
+            is_lying: false,
+            has_slept: false,
+            seen: 0,
+            looks: 0,
+        }
+    }
+
+    /// It looks again. If it has just been asleep and there are jobs, another thread must watch before this one takes a
+    /// job, which may take long.
+    pub fn look<
+        H: Drop,
+        T: Ledgers,
+        N: Opening,
+        I: LinkIn + Drop,
+        O: LinkOut + Drop,
+        S: Source<I> + Sink<O>,
+    >(&mut self, common: &Common<H, T, N, I, O, S>) {
+        if self.has_slept && common.signs.is_busy() {
+            common.sleepers.call_watch();
+        }
+        self.has_slept = false;
+    }
+
+    /// It has found something to do.
+    pub fn rise<
+        H: Drop,
+        T: Ledgers,
+        N: Opening,
+        I: LinkIn + Drop,
+        O: LinkOut + Drop,
+        S: Source<I> + Sink<O>,
+    >(&mut self, common: &Common<H, T, N, I, O, S>) {
+        self.looks = 0;
+        if self.is_lying {
+            common.sleepers.get_up(self.number);
+            self.is_lying = false;
+        }
+    }
+
+    /// It has found nothing to do. If requests are waiting, it looks again; otherwise it announces that it will sleep,
+    /// or sleeps if it has announced it. As long as something comes, one sleeping thread watches, that is, looks again
+    /// by itself: a call may keep another thread from making the next receive.
+    pub fn sink<
+        H: Wait + Drop,
+        T: Ledgers,
+        N: Opening,
+        I: LinkIn + Drop,
+        O: LinkOut + Drop,
+        S: Source<I> + Sink<O>,
+    >(&mut self, common: &Common<H, T, N, I, O, S>) {
+        if self.looks < LOOKS && common.signs.has_backlog() {
+            self.looks += 1;
+            return;
+        }
+        if !self.is_lying {
+            common.sleepers.lie_down(self.number);
+            self.is_lying = true;
+            return;
+        }
+        let receives = common.signs.receives.load(Ordering::SeqCst);
+        let is_news = receives != self.seen;
+        self.seen = receives;
+        let before = common.signs.worked();
+        if common.sleepers.sleep(&common.rt, self.number, is_news) {
+            common.signs.tell_watched(before);
+        }
+        self.is_lying = false;
+        self.has_slept = true;
+        self.looks = 0;
+    }
+}

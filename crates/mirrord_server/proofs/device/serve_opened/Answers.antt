@@ -1,0 +1,7 @@
+use Rattle.mirrord_server.proofs.Devices.{served_over}
+use Rattle.mirrord_server.proofs.device.serve_opened.Goals as goal
+
+pub returns : goal.returns
+returns g c =
+    served_over g.R.ReadRequest.gives g.W.WriteReply.takes c.args.terms _ c.args.device.requests c.args.device.replies _ _ _ c.serve_workers.result.end _
+    c.in-Ok.ensures c.in-Ok-new.ensures c.serve_workers.ensures

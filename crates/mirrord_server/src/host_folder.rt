@@ -1,0 +1,100 @@
+//! The folder of one worker.
+
+ghost use Rattle.std.specs.Prelude.{◌≡◌, IfOk};
+
+use backing::{Answer, Call, Calls};
+use disk::Unknown;
+use disk_folder::Folder;
+use linux_disk::{LibC, Linux, OpenFd, SharedFiles, room_for_open};
+use mirrord_sessions::{Unserved, new_seed, not_opened, not_started};
+use std::marker::Model;
+use std::num::NonZeroUsize;
+use std::random::RandomSource;
+use std::sync::Wait;
+
+/// The folder of Linux that all workers serve, with the files that they share.
+pub(crate) type HostDisk<H> = Linux<LibC, SharedFiles<OpenFd, H>>;
+
+/// A folder that another thread may use. Of its disk nothing is known.
+#[derive(Drop)]
+pub(crate) struct HostFolder<H: Wait + Clone + Drop> {
+    folder: Folder<Unknown<HostDisk<H>>>,
+}
+
+impl<H: Wait + Clone + Drop> Model for HostFolder<H> {
+    ghost use Rattle.std.specs.Prelude.{ℕ};
+
+    ghost Value = { ℕ };
+
+    ghost view = { λ f. f.folder.1 };
+}
+
+impl<H: Wait + Clone + Drop> Calls for HostFolder<H> {
+    ghost use Rattle.disk_folder.specs.Explained.{Tells};
+    ghost use Rattle.disk_folder.specs.CallLemmas.{gives_counts};
+
+    ghost gives = { Tells };
+
+    ghost faults = { λ failures. failures };
+
+    ghost counts = { gives_counts };
+
+    fn call(&mut self, call: Call<'_>) -> Answer {
+        self.folder.call(call)
+    }
+
+    fn offer_room(&mut self, buffer: &mut Vec<u8>) {
+        self.folder.offer_room(buffer);
+    }
+}
+
+/// Of what may be kept open, one half are files, which all workers share, and one half folders, of which each has its own.
+fn files_kept() -> NonZeroUsize {
+    NonZeroUsize::new(room_for_open() / 2).unwrap_or(NonZeroUsize::MIN)
+}
+
+fn folders_kept(workers: u8) -> usize {
+    let each = room_for_open() / 2 / usize::from(workers.max(1));
+    each.max(1)
+}
+
+/// The folder at `root`.
+pub(crate) fn open_first<H: Wait + RandomSource + AllocGlobal + Clone + Drop>(
+    rt: &H,
+    root: &str,
+) -> Result<HostDisk<H>, Unserved> {
+    let seed = new_seed(rt)?;
+    let alloc = rt.alloc();
+    let Ok(own) = rt.clone() else {
+        return Err(Unserved::Memory);
+    };
+    let Ok(calls) = LibC::new(alloc) else {
+        return Err(Unserved::Memory);
+    };
+    let Ok(store) = SharedFiles::new(own, alloc, files_kept(), seed) else {
+        return Err(Unserved::Memory);
+    };
+    match Linux::open(calls, store, alloc, root) {
+        Ok(linux) => Ok(linux),
+        Err(error) => Err(not_started(error)),
+    }
+}
+
+/// The same folder for one of so many workers.
+pub(crate) fn open_next<H: Wait + RandomSource + Clone + Drop>(
+    rt: &H,
+    first: &HostDisk<H>,
+    workers: u8,
+) -> Result<HostFolder<H>, Unserved>
+    ensures { IfOk result (λ folder. folder ≡ 0) }
+{
+    let seed = new_seed(rt)?;
+    let shared = match first.share() {
+        Ok(shared) => shared,
+        Err(error) => return Err(not_opened(error)),
+    };
+    match Folder::new(Unknown::new(shared), folders_kept(workers), seed) {
+        Ok(folder) => Ok(HostFolder { folder }),
+        Err(error) => Err(not_opened(error)),
+    }
+}

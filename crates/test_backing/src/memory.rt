@@ -1,0 +1,178 @@
+//! A folder of an honest disk in memory beside a memory tree, also where calls of the disk fail.
+
+use crate::asking::{ask, expect_count};
+use crate::random::{Dice, ask_many, call};
+use backing::{MemTree, PlannedFault};
+use disk::MemoryDisk;
+use disk_folder::Folder;
+use errno::EIO;
+use std::alloc::{AllocError, Global};
+use std::hash::RandomState;
+use std::test::Fail;
+
+type InMemory = Folder<MemoryDisk>;
+
+/// So many calls of the disk fail at most.
+const FAULTS: u64 = 500;
+
+#[test]
+fn a_folder_in_memory_answers_alike(rt: HostRuntime) -> Result<(), Fail> {
+    for (capacity, most, keeps_files) in [(64, usize::MAX, false), (3, 2, false), (6, 3, true)] {
+        let disk = MemoryDisk::new(rt.alloc())?;
+        disk.set_most(most);
+        disk.set_keeps_files(keeps_files);
+        let mut folder = folder_of(&rt, disk, capacity)?;
+        ask_many(rt.alloc(), &mut folder, 1500)?;
+    }
+    Ok(())
+}
+
+/// The answer to the call, which is asked again where the disk fails.
+fn told_surely(alloc: Global, folder: &mut InMemory, words: &str) -> Result<String, AllocError> {
+    let mut told = ask(alloc, folder, words)?;
+    for _ in 0..3 {
+        if told.as_str() == "fault 5" {
+            told = ask(alloc, folder, words)?;
+        }
+    }
+    Ok(told)
+}
+
+/// Whether both answer alike what is at that path.
+fn is_same_at(
+    alloc: Global,
+    tree: &mut MemTree,
+    folder: &mut InMemory,
+    path: &str,
+) -> Result<bool, AllocError> {
+    for name in ["stat", "read"] {
+        let words = format!(in alloc; "{name} {path} 0 99")?;
+        let wanted = ask(alloc, tree, words.as_str())?;
+        let told = told_surely(alloc, folder, words.as_str())?;
+        if told.as_str() != wanted.as_str() {
+            return Ok(false);
+        }
+    }
+    Ok(true)
+}
+
+/// Whether both answer alike below that path, which ends with a slash or is empty.
+fn is_same_below(
+    alloc: Global,
+    tree: &mut MemTree,
+    folder: &mut InMemory,
+    above: &str,
+) -> Result<bool, AllocError> {
+    for name in ["a", "b", "c"] {
+        let path = format!(in alloc; "{above}{name}")?;
+        if !is_same_at(alloc, tree, folder, path.as_str())? {
+            return Ok(false);
+        }
+    }
+    Ok(true)
+}
+
+/// Whether both answer alike at all paths that random calls have.
+fn is_same(alloc: Global, tree: &mut MemTree, folder: &mut InMemory) -> Result<bool, AllocError> {
+    let above = [
+        "", "a/", "b/", "c/", "a/a/", "a/b/", "a/c/", "b/a/", "b/b/", "b/c/", "c/a/", "c/b/",
+        "c/c/",
+    ];
+    for path in above {
+        if !is_same_below(alloc, tree, folder, path)? {
+            return Ok(false);
+        }
+    }
+    Ok(true)
+}
+
+/// A call that failed has done nothing, or all of its work, which is then done in the tree too. What stands at its first path tells.
+fn settle(
+    alloc: Global,
+    tree: &mut MemTree,
+    folder: &mut InMemory,
+    words: &str,
+) -> Result<(), Fail> {
+    let path = words.split(' ').nth(1).unwrap_or(".");
+    if is_same_at(alloc, tree, folder, path)? {
+        return Ok(());
+    }
+    let _ = ask(alloc, tree, words)?;
+    if is_same_at(alloc, tree, folder, path)? {
+        return Ok(());
+    }
+    Err(Fail::from((words, "it failed, and did something else")))
+}
+
+/// Checks that the folder answers as the tree does, or counts one failure: whether it does.
+fn ask_failing(
+    alloc: Global,
+    tree: &mut MemTree,
+    folder: &mut InMemory,
+    words: &str,
+) -> Result<bool, Fail> {
+    let before = folder.failures();
+    let told = ask(alloc, folder, words)?;
+    if folder.failures() == before {
+        let wanted = ask(alloc, tree, words)?;
+        if told.as_str() == wanted.as_str() {
+            return Ok(true);
+        }
+        return Err(Fail::from((words, told, wanted)));
+    }
+    expect_count(folder.failures(), before.saturating_add(1))?;
+    if told.as_str().starts_with("fault ") {
+        return Ok(false);
+    }
+    Err(Fail::from((words, told)))
+}
+
+/// Of that disk.
+fn folder_of(rt: &HostRuntime, disk: MemoryDisk, capacity: usize) -> Result<InMemory, Fail> {
+    let seed = RandomState::new(rt)?;
+    let folder = Folder::new(disk, capacity, seed)?;
+    Ok(folder)
+}
+
+/// A folder of whose disk's calls each one fails like this that has such a number in a row.
+fn failing(rt: &HostRuntime, fault: PlannedFault, every: u64) -> Result<InMemory, Fail> {
+    let disk = MemoryDisk::new(rt.alloc())?;
+    for n in 1..FAULTS {
+        disk.fail_at(n.saturating_mul(every), fault)?;
+    }
+    folder_of(rt, disk, 6)
+}
+
+/// Makes so many random calls. What has failed is settled, or else has not been done.
+fn ask_many_failing(
+    alloc: Global,
+    folder: &mut InMemory,
+    count: u32,
+    settled: bool,
+) -> Result<(), Fail> {
+    let mut tree = MemTree::new(alloc);
+    let mut dice = Dice::new(20_261_128);
+    for _ in 0..count {
+        let words = call(alloc, &mut dice)?;
+        if !ask_failing(alloc, &mut tree, folder, words.as_str())? && settled {
+            settle(alloc, &mut tree, folder, words.as_str())?;
+        }
+    }
+    if folder.failures() > 100 && is_same(alloc, &mut tree, folder)? {
+        return Ok(());
+    }
+    Err(Fail::from(("they are not the same", folder.failures())))
+}
+
+// A call of the disk that fails before its work changes nothing, so the call of the folder has changed nothing.
+#[test]
+fn what_fails_before_its_work_is_not_done(rt: HostRuntime) -> Result<(), Fail> {
+    let mut folder = failing(&rt, PlannedFault::Before(EIO), 13)?;
+    ask_many_failing(rt.alloc(), &mut folder, 2000, false)
+}
+
+#[test]
+fn what_fails_after_its_work_is_done_or_not(rt: HostRuntime) -> Result<(), Fail> {
+    let mut folder = failing(&rt, PlannedFault::After(EIO), 17)?;
+    ask_many_failing(rt.alloc(), &mut folder, 1000, true)
+}
