@@ -1,4 +1,5 @@
 pub mod Names
+pub mod Opened
 pub mod Errors
 pub mod Answers
 pub mod Alone

@@ -59,6 +59,9 @@ pub trait Disk {
         requires { IsLawfulName name.now }
         ensures { (up : Names) → stands self.now dir.now up → IfSome result (StandsAsFile (tree self.now) (stands self.now) (up ++ name.now ∷ [])) };
 
+    /// Whether the open folder is reached by its name at each call, so that it is lost where that name moves.
+    fn is_by_name(&self, dir: &Self::Handle) -> bool;
+
     /// Opens the folder itself.
     fn open_root(&self) -> Result<Self::Handle, DiskError>
         ensures { IfOk result (λ handle. honest → stands self.now handle []) };

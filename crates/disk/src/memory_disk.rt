@@ -62,6 +62,10 @@ impl Disk for MemoryDisk {
         None
     }
 
+    fn is_by_name(&self, _dir: &MemoryHandle) -> bool {
+        false
+    }
+
     fn open_root(&self) -> Result<MemoryHandle, DiskError> {
         match self.schedule.pass() {
             Ok(()) => {}

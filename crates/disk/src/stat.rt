@@ -1,6 +1,7 @@
 //! What a look tells, and what is set.
 
 ghost use Rattle.std.specs.Prelude.{◌↔◌, ◌≡◌, IsTrue};
+ghost use Rattle.disk.specs.Opened.{serves};
 
 use backing::{Details, Kind, NewTime};
 
@@ -37,6 +38,18 @@ pub enum Access {
     Read,
     /// To be read and written.
     Write,
+}
+
+impl Access {
+    /// Whether a file that was opened for the one serves the other.
+    pub fn serves(self, wanted: Access) -> bool
+        ensures { result ≡ serves self wanted }
+    {
+        match (self, wanted) {
+            (Access::Write, _) | (Access::Read, Access::Read) => true,
+            (Access::Read, Access::Write) => false,
+        }
+    }
 }
 
 /// What is set of a file or a folder, beside its bytes.

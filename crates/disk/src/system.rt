@@ -28,6 +28,8 @@ pub trait System {
     fn find_open(&self, dir: &Self::Handle, name: &Name, access: Access) -> Option<Self::Handle>
         requires { IsLawfulName name.now };
 
+    fn is_by_name(&self, dir: &Self::Handle) -> bool;
+
     fn open_root(&self) -> Result<Self::Handle, DiskError>;
 
     fn inspect(&self, handle: &Self::Handle) -> Result<Stat, DiskError>;

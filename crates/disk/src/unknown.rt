@@ -85,6 +85,10 @@ impl<S: System + Drop> Disk for Unknown<S> {
         self.system.find_open(dir, name, access)
     }
 
+    fn is_by_name(&self, dir: &Self::Handle) -> bool {
+        self.system.is_by_name(dir)
+    }
+
     fn open_root(&self) -> Result<Self::Handle, DiskError> {
         self.system.open_root()
     }

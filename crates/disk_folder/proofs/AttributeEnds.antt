@@ -33,11 +33,6 @@ pub done_as : (told : Result (Unit {0}) DiskError) (result : Result Answer Troub
 done_as (Ok done) result P ok err it = subst (λ (r : Result Answer Trouble). OnOk r P) (sym ok) it
 done_as (Err error) result P ok err it = subst (λ (r : Result Answer Trouble). OnOk r P) (sym err) tt
 
--- the system failed
-pub done_err : (told : Result (Unit {0}) DiskError) (result : Result Answer Trouble) (at : Tree) (p : Names) → OnOk told (result ≡ Ok Done) → IfErr told (λ error. result ≡ Err (Failed (errno_of error))) → IfErr result (IsRefused at (present_tests p))
-done_err (Ok done) result at p ok err = subst (λ (r : Result Answer Trouble). IfErr r (IsRefused at (present_tests p))) (sym ok) tt
-done_err (Err error) result at p ok err = subst (λ (r : Result Answer Trouble). IfErr r (IsRefused at (present_tests p))) (sym err) tt
-
 pub on_if : {A E : Type 0} (result : Result A E) (P : Type 0) → OnOk result P → IfOk result (λ own. P)
 on_if (Ok own) P it = it
 on_if (Err error) P it = tt

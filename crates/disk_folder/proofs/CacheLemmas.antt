@@ -32,13 +32,6 @@ forgotten : {V : Type 0} (b : Bool) (old new : Option V) → new ≡ (if b then 
 forgotten true old new e = inr e
 forgotten false old new e = inl e
 
--- what is kept at the path or below it is closed
-pub settles_forget : {H : Type 0} (old new : OpenCache H) (q : Names) → ((p : Names) → kept_at new.cache p ≡ (if is_prefix q p then None else kept_at old.cache p)) → ((place : Place) (p : Names) → is_prefix q p ≡ false → IsAt old.cache place p → IsAt new.cache place p) → Settles old q new
-settles_forget old new q kept places = record {
-  kept = λ p. forgotten (is_prefix q p) (kept_at old.cache p) (kept_at new.cache p) (kept p);
-  places = places;
-}
-
 -- the same after a look-up
 pub settles_found : {H : Type 0} (old new : OpenCache H) (mid : Cache (Open H)) (q : Names) → ((p : Names) → kept_at mid p ≡ kept_at old.cache p) → ((place : Place) (p : Names) → IsAt old.cache place p → IsAt mid place p) → ((p : Names) → kept_at new.cache p ≡ (if is_prefix q p then None else kept_at mid p)) → ((place : Place) (p : Names) → is_prefix q p ≡ false → IsAt mid place p → IsAt new.cache place p) → Settles old q new
 settles_found {H} old new mid q same here kept places = record {
@@ -54,10 +47,6 @@ keeps_one {H} old new q opened kept = record { kept = λ p. by_tests p (is_prefi
     by_tests p true true over under e = inr (inr (is_prefix-both q p over under, e))
     by_tests p true false over under e = inr (inl e)
     by_tests p false b over under e = inl e
-
--- nothing more is kept
-pub keeps_none : {H : Type 0} (old new : OpenCache H) (q : Names) (opened : Open H) → ((p : Names) → kept_at new.cache p ≡ kept_at old.cache p) → Keeps old q opened new
-keeps_none old new q opened same = record { kept = λ p. inl (same p) }
 
 -- nothing is kept where all was closed
 pub forgets_none : {H : Type 0} (old new : OpenCache H) (q : Names) → Forgets old q new → NoneKept new q

@@ -107,16 +107,6 @@ read_ends at p before offset size (Ok answer) t file is err = (file_passes at p 
 read_ends at p before offset size (Err (Refused reason)) t file is err = absurd err
 read_ends at p before offset size (Err (Failed errno)) t file is err = Before refl
 
--- no bytes stand behind a file's end
-pub read_nothing : (bytes : List ℕ) (offset size : ℕ) → length bytes ≤ offset → read bytes offset size ≡ []
-read_nothing bytes offset size short = nil_from_length (read bytes offset size) (omega (arith, length-take {A = ℕ}, length-drop {A = ℕ}))
-
--- a look at a file tells its length
-pub seen_length : (at : Tree) (p : Names) (bytes : List ℕ) (seen : Seen) → at p ≡ Some (File bytes) → IsSeen at p seen → seen.size ≡ length bytes
-seen_length at p bytes seen file it =
-    let same : it.item ≡ File bytes = let e : Some it.item ≡ Some (File bytes) = sym it.stands ∙ file in cc in
-    it.size ∙ ap size_of same
-
 -- the file has another length
 pub cut_ends : {H : Type 0} (at at' : Tree) (olds news : H → Names → Type 0) (path : Names) (size : ℕ) → IsTree at → CutsFile at olds path size at' news → Ends at (AskSetLen path size) (Ok Done) at'
 cut_ends at at' olds news path size t cut =

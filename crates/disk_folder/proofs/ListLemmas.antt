@@ -117,10 +117,6 @@ list_ends at path seen (Ok answer) t it ok err =
     let some = some_item (at path) Folder it.folder in
     ((leads at path t some, (some, ((λ file. file_no_folder (at path) file (folder_yes (at path) it.folder)), tt))), ((children_of seen, lists_seen at path it.names seen it.lists it.are, ok), refl))
 
-pub list_suits : (path : Names) (seen : List SeenName) (result : Result Answer Trouble) → IfOk result (λ answer. answer ≡ NamesAre (children_of seen)) → IfOk result (Suits (AskList path))
-list_suits path seen (Ok answer) is = (children_of seen, is)
-list_suits path seen (Err trouble) is = tt
-
 pub listing_of : {A : Type 0} (at : Tree) (path : Names) (result : Result A Trouble) (items : A → List SeenName) → at path ≡ Some Folder → IfOk result (λ seen. (names : List Name) × ListsNames at path names × AreSeen at path names (items seen)) → IfOk result (λ seen. IsListing at path (items seen))
 listing_of at path (Ok seen) items folder it = record { folder = folder; names = it.0; lists = it.1; are = it.2 }
 listing_of at path (Err trouble) items folder it = tt

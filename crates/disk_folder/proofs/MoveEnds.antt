@@ -91,6 +91,15 @@ cleared_low old new s t low_s low_t kept = record {
 pub cleared_follows : {H : Type 0} (old new : OpenCache H) (up : Names) (name : Name) (up' : Names) (name' : Name) → ((p : Names) → kept_at new.cache p ≡ root_alone (kept_at old.cache) p) → Follows old (up ++ name ∷ []) (up' ++ name' ∷ []) new
 cleared_follows old new up name up' name' kept = cleared_low old new (up ++ name ∷ []) (up' ++ name' ∷ []) (below_root up name) (below_root up' name') kept
 
+-- what was kept stays until then
+pub keeps_follows : {H : Type 0} (old mid new : OpenCache H) (s t : Names) → KeepsAll old mid → Follows mid s t new → Follows old s t new
+keeps_follows old mid new s t keeps follows = record {
+  each = λ p opened is. elim (follows.each p opened is) [
+    | inl it ↦ inl (it.0, it.1, sym (keeps.kept (s ++ it.0)) ∙ it.2)
+    | inr it ↦ inr (it.0, it.1, sym (keeps.kept p) ∙ it.2)
+  ];
+}
+
 cleared_stays : {H : Type 0} (at at' : Tree) (olds news : H → Names → Type 0) (old new : OpenCache H) → ((p : Names) → kept_at new.cache p ≡ root_alone (kept_at old.cache) p) → Stays at olds at' news → AllStand at olds old → AllStand at' news new
 cleared_stays at at' olds news old new kept stays all =
     let left : AllStand at olds new = record { each = λ p opened is. all.each p opened (root_cases (kept_at old.cache) p opened (sym (kept p) ∙ is)).1 } in
@@ -177,17 +186,6 @@ stopped_ends at s t (Failed errno) tree apart some stopped = Before refl
 stopped_ends at s t (Refused reason) tree apart some stopped =
     (refuse_room at s t (reason_errno reason) tree (apart_low s t apart.not_into) (apart_low t s apart.not_over) some (is_path-no s t (other_path s t apart.not_into)) (inr (apart.not_into, inr (apart.not_over, inl stopped))), refl)
 
--- nothing stands at s
-pub unseen_ends : (at : Tree) (s t : Names) (trouble : Trouble) → (s ≡ [] → ⊥) → (t ≡ [] → ⊥) → IsRefused at (present_tests s) trouble → Ends at (AskRename s t) (Err trouble) at
-unseen_ends at s t (Failed errno) low_s low_t refused = Before refl
-unseen_ends at s t (Refused reason) low_s low_t (inl stops) = (inr (low_s, inr (low_t, inl stops)), refl)
-unseen_ends at s t (Refused reason) low_s low_t (inr (down, inl none)) = (inr (low_s, inr (low_t, inr (down, inl none))), refl)
-unseen_ends at s t (Refused reason) low_s low_t (inr (down, inr (some, more))) = absurd more
-
-pub failure_ends : (at : Tree) (s t : Names) (trouble : Trouble) → IsFailure trouble → Ends at (AskRename s t) (Err trouble) at
-failure_ends at s t (Refused reason) failure = absurd failure
-failure_ends at s t (Failed errno) failure = Before refl
-
 pub not_is : (P : Type 0) (b : Bool) → (P → IsTrue b) → b ≡ false → P → ⊥
 not_is P b says denied p = true≢false (sym (says p) ∙ denied)
 
@@ -197,14 +195,6 @@ entry_keeps old new entry path keeps it = record { up = it.up; whole = it.whole;
 
 pub stands_keeps : {H : Type 0} (at : Tree) (stands : H → Names → Type 0) (old new : OpenCache H) (entry : Entry H) (path : Names) → KeepsAll old new → StandsIn at stands old entry path → StandsIn at stands new entry path
 stands_keeps at stands old new entry path keeps it = record { up = it.up; whole = it.whole; folder = folder_keeps_all at stands old new entry.folder it.up keeps it.folder }
-
-pub both_apart : (s t up up' : Names) (name name' : Name) → s ≡ up ++ name ∷ [] → t ≡ up' ++ name' ∷ [] → AreApart s t → AreApart (up ++ name ∷ []) (up' ++ name' ∷ [])
-both_apart s t up up' name name' e f apart = subst (λ (q : Names). AreApart q (up' ++ name' ∷ [])) e (subst (λ (q : Names). AreApart s q) f apart)
-
--- both folders are open
-pub both_ends : (at at' : Tree) (s t : Names) (result : Result Answer Trouble) (up up' : Names) (name name' : Name) → s ≡ up ++ name ∷ [] → t ≡ up' ++ name' ∷ [] → AreApart s t → IsSome (at s) → (AreApart (up ++ name ∷ []) (up' ++ name' ∷ []) → IsSome (at (up ++ name ∷ [])) → Ends at (AskRename (up ++ name ∷ []) (up' ++ name' ∷ [])) result at') → Ends at (AskRename s t) result at'
-both_ends at at' s t result up up' name name' e f apart some ends =
-    subst (λ (q : Names). Ends at (AskRename q t) result at') (sym e) (subst (λ (q : Names). Ends at (AskRename (up ++ name ∷ []) q) result at') (sym f) (ends (both_apart s t up up' name name' e f apart) (subst (λ (q : Names). IsSome (at q)) e some)))
 
 -- what a look tells of t, in a folder
 pub target_told : (at : Tree) (t up : Names) (name : Name) (result : Result Bool Trouble) → IsTree at → t ≡ up ++ name ∷ [] → at up ≡ Some Folder → IfOk result (IsTold at (up ++ name ∷ [])) → IfOk result (λ taken. Resolves at t × IsTold at t taken)

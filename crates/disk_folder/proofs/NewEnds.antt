@@ -16,7 +16,7 @@ use Rattle.disk_folder.specs.declared.trouble.Trouble.TheVariants.{Refused, Fail
 use Rattle.disk_folder.specs.declared.trouble.Reason.TheVariants.{Taken, Below, Names as HasNames}
 use Rattle.disk_folder.specs.Ends.{Ends, Before, After, IsRefused}
 use Rattle.disk_folder.specs.Troubles.{IsFailure, IsStopped, reason_errno}
-use Rattle.disk_folder.proofs.MoveEnds.{apart_low, both_apart}
+use Rattle.disk_folder.proofs.MoveEnds.{apart_low}
 use Rattle.disk_folder.proofs.KeptCases.{other_path}
 use Rattle.disk_folder.proofs.WayLemmas.{leads, leads_below}
 
@@ -44,17 +44,6 @@ pub new_taken : (at : Tree) (s t : Names) → IsTree at → AreApart s t → IsS
 new_taken at s t tree apart some down there =
     (refuse_new at s t (reason_errno Taken) tree (apart_low s t apart.not_into) (apart_low t s apart.not_over) some (inr (is_path-no s t (other_path s t apart.not_into), inr (apart.not_into, inr (apart.not_over, inr (down, inl (there, refl)))))), refl)
 
--- nothing stands at s
-pub new_unseen : (at : Tree) (s t : Names) (trouble : Trouble) → (s ≡ [] → ⊥) → (t ≡ [] → ⊥) → IsRefused at (present_tests s) trouble → Ends at (AskRenameNew s t) (Err trouble) at
-new_unseen at s t (Failed errno) low_s low_t refused = Before refl
-new_unseen at s t (Refused reason) low_s low_t (inl stops) = (inr (low_s, inr (low_t, inl stops)), refl)
-new_unseen at s t (Refused reason) low_s low_t (inr (down, inl none)) = (inr (low_s, inr (low_t, inr (down, inl none))), refl)
-new_unseen at s t (Refused reason) low_s low_t (inr (down, inr (some, more))) = absurd more
-
-pub new_failure : (at : Tree) (s t : Names) (trouble : Trouble) → IsFailure trouble → Ends at (AskRenameNew s t) (Err trouble) at
-new_failure at s t (Refused reason) failure = absurd failure
-new_failure at s t (Failed errno) failure = Before refl
-
 -- it is moved
 new_done : {H : Type 0} (at at' : Tree) (olds news : H → Names → Type 0) (s t : Names) → IsTree at → Resolves at t → AreApart s t → at t ≡ None → Moves at olds s t at' news → Ends at (AskRenameNew s t) (Ok Done) at'
 new_done at at' olds news s t tree down apart free moves =
@@ -76,8 +65,3 @@ new_lost at at' olds news s t Exists errno tree down apart free none = Before no
 pub new_not_moved : {H : Type 0} (at at' : Tree) (olds news : H → Names → Type 0) (up : Names) (name : Name) (up' : Names) (name' : Name) (error : DiskError) (trouble : Trouble) (errno : ℤ) → IsTree at → at up' ≡ Some Folder → AreApart (up ++ name ∷ []) (up' ++ name' ∷ []) → at (up' ++ name' ∷ []) ≡ None → Renames at olds (up ++ name ∷ []) (up' ++ name' ∷ []) (Err error) at' news → trouble ≡ Failed errno → Ends at (AskRenameNew (up ++ name ∷ []) (up' ++ name' ∷ [])) (Err trouble) at'
 new_not_moved at at' olds news up name up' name' error trouble errno tree folder apart free none why =
     subst (λ (x : Trouble). Ends at (AskRenameNew (up ++ name ∷ []) (up' ++ name' ∷ [])) (Err x) at') (sym why) (new_lost at at' olds news (up ++ name ∷ []) (up' ++ name' ∷ []) error errno tree (leads_below at up' name' tree folder) apart free none)
-
--- both folders are open
-pub new_both : (at at' : Tree) (s t : Names) (result : Result Answer Trouble) (up up' : Names) (name name' : Name) → s ≡ up ++ name ∷ [] → t ≡ up' ++ name' ∷ [] → AreApart s t → at t ≡ None → (AreApart (up ++ name ∷ []) (up' ++ name' ∷ []) → at (up' ++ name' ∷ []) ≡ None → Ends at (AskRenameNew (up ++ name ∷ []) (up' ++ name' ∷ [])) result at') → Ends at (AskRenameNew s t) result at'
-new_both at at' s t result up up' name name' e f apart free ends =
-    subst (λ (q : Names). Ends at (AskRenameNew q t) result at') (sym e) (subst (λ (q : Names). Ends at (AskRenameNew (up ++ name ∷ []) q) result at') (sym f) (ends (both_apart s t up up' name name' e f apart) (subst (λ (q : Names). at q ≡ None) f free)))

@@ -35,10 +35,6 @@ read_more bytes offset count more k room new before within fits is held =
 pub room_more : (count more k : ℕ) (room new : List ℕ) → count ≤ length room → more ≤ length new → count + more ≤ length (put_mid count k room new)
 room_more count more k room new within fits = omega (arith, length-append (take count room) (new ++ post_of count k room), length-append new (post_of count k room), length-take-le count room within)
 
--- the buffer is full
-pub read_full : (bytes buffer : List ℕ) (offset count size : ℕ) → ReadSoFar bytes offset count buffer → count ≡ size → take count buffer ≡ read bytes offset size
-read_full bytes buffer offset count size it e = it.read_ok ∙ ap (λ (n : ℕ). take n (drop offset bytes)) e
-
 -- the file ended
 pub read_short : (bytes buffer : List ℕ) (offset count size : ℕ) → ReadSoFar bytes offset count buffer → count ≤ size → length bytes ≤ offset + count → take count buffer ≡ read bytes offset size
 read_short bytes buffer offset count size it fits end =

@@ -82,10 +82,6 @@ entry_no_file at path up name (Ok held) t whole folder none = tt
 entry_no_file at path up name (Err trouble) t whole folder none =
     subst (λ (q : Names). IsRefused at (file_tests q) trouble) (sym whole) (no_file_refused at (up ++ name ∷ []) trouble (leads_below at up name t folder) none)
 
--- the root is no file
-pub root_no_file : (at : Tree) → IsTree at → IsRefused at (file_tests []) (Refused IsOne)
-root_no_file at t = inr (record { down = λ k h. absurd (omega (arith, h)) }, inr (some_item (at []) Folder t.root, inl (folder_yes (at []) t.root, refl)))
-
 item_folder : (item : Item) → kinds.Folder ≡ kind_of item → item ≡ Folder
 item_folder Folder e = refl
 item_folder (File bytes) e = cc

@@ -82,16 +82,6 @@ barred_at at path k (Refused reason) t folder within blocked = λ name.
 pub none_blocks : (at : Tree) (q : Names) → at q ≡ None → Blocks (at q) ENOENT
 none_blocks at q none = subst (λ (o : Option Item). Blocks o ENOENT) (sym none) refl
 
-pub missing_blocks : (at : Tree) (q : Names) (trouble : Trouble) → IsMissing at q trouble → IsBlocked at q trouble
-missing_blocks at q (Failed errno) none = tt
-missing_blocks at q (Refused Nothing) none = none_blocks at q none
-missing_blocks at q (Refused Root) none = absurd none
-missing_blocks at q (Refused Taken) none = absurd none
-missing_blocks at q (Refused NoFolder) none = absurd none
-missing_blocks at q (Refused IsOne) none = absurd none
-missing_blocks at q (Refused Below) none = absurd none
-missing_blocks at q (Refused HasNames) none = absurd none
-
 -- a path of one name more than its prefix is that and then its last name
 pub parent_is : (up path above : Names) (name : Name) → path ≡ above ++ name ∷ [] → length above ≡ length up → is_prefix up path ≡ true → up ++ name ∷ [] ≡ path
 parent_is up path above name whole long prefix =

@@ -52,7 +52,7 @@ fn names_of(call: Call<'_>) -> usize {
     }
 }
 
-/// Reads the clock, hears whether others have moved names, and makes room for what the call may open.
+/// Reads the clock, hears whether others have moved or removed folders, and makes room for what the call may open.
 pub fn begin<D: Disk>(disk: &D, cache: &mut OpenCache<D::Handle>, call: Call<'_>)
     ensures { (p : Names) → (kept_at cache.new.cache p ≡ kept_at cache.old.cache p) ⊎ (kept_at cache.new.cache p ≡ None) }
 {
@@ -65,15 +65,7 @@ pub fn begin<D: Disk>(disk: &D, cache: &mut OpenCache<D::Handle>, call: Call<'_>
     cache.make_room(names_of(call));
 }
 
-/// Whether it moves a name or removes a folder, once it is done.
-fn is_move(call: Call<'_>) -> bool {
-    matches!(
-        call,
-        Call::RemoveDir(_) | Call::Rename { .. } | Call::RenameNew { .. }
-    )
-}
-
-/// A move of our own, if that is all that was counted since the call began, is no reason to look once more at what is kept.
+/// Hears of the folder that the call removed. One that it moved is heard of where that was counted.
 pub fn note_own<D: Disk>(
     disk: &D,
     cache: &mut OpenCache<D::Handle>,
@@ -82,12 +74,8 @@ pub fn note_own<D: Disk>(
 )
     ensures { cache.new.cache ≡ cache.old.cache }
 {
-    if !is_move(call) || ended.is_err() {
-        return;
-    }
-    let moves = disk.moves();
-    if moves == cache.moves.wrapping_add(1) {
-        cache.moves = moves;
+    if matches!(call, Call::RemoveDir(_)) && ended.is_ok() {
+        cache.hear_own(disk.moves());
     }
 }
 

@@ -21,17 +21,6 @@ use errno::EIO;
 use path_cache::Place;
 use paths::Path;
 
-/// A file that was opened for the one serves the other.
-fn serves(opened: Access, wanted: Access) -> bool {
-    match opened {
-        Access::Write => true,
-        Access::Read => match wanted {
-            Access::Read => true,
-            Access::Write => false,
-        },
-    }
-}
-
 /// Where the path is kept as a file that serves: no call of the system.
 pub fn recall_file<'a, D: Disk>(
     cache: &mut OpenCache<D::Handle>,
@@ -49,7 +38,7 @@ pub fn recall_file<'a, D: Disk>(
             match opened.kind {
                 Kind::Folder => None,
                 Kind::File => {
-                    if serves(opened.access, access) {
+                    if opened.access.serves(access) {
                         Some(place)
                     } else {
                         None
@@ -261,6 +250,10 @@ pub fn find_file<'a, D: Disk>(
     ensures stand { AllStand (D.tree disk.now) (D.stands disk.now) cache.old → AllStand (D.tree disk.now) (D.stands disk.now) cache.new }
     ensures err { AllStand (D.tree disk.now) (D.stands disk.now) cache.old → IfErr result (IsRefused (D.tree disk.now) (file_tests path.now)) }
 {
+    // No file is kept here then.
+    if disk.keeps_files() {
+        return find_there(disk, cache, path, access);
+    }
     match recall_file::<D>(cache, path, access) {
         Some(place) => Ok(Held::Kept(place)),
         None => find_there(disk, cache, path, access),

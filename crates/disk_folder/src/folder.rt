@@ -28,8 +28,8 @@ const WORTH_KEEPING: usize = 1024;
 /// It shows files and folders alone: a symbolic link, a pipe, a socket or a device is absent to it, wherever it stands in a path, and
 /// is neither followed nor opened. Each call goes down from open folder to open folder, each by one name. Folders and files that were
 /// come to stay open in a cache, the least recently used of which are closed for room. A folder there is used as it is for a second
-/// after a look has shown it under its name, and then after one more look, unless others who serve the same folder have moved a name
-/// or removed a folder since. A file there is used without a look.
+/// after a look has shown it under its name, and then after one more look, unless others who serve the same folder have moved or
+/// removed a folder since. A file there is used without a look.
 ///
 /// What a list has looked at is told again to the calls that follow it, for a tenth of a second and as long as nothing is changed.
 ///

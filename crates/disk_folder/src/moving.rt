@@ -7,7 +7,8 @@ ghost use Rattle.backing.specs.Calls.{AskRename, AskRenameNew};
 ghost use Rattle.backing.specs.Tree.{Resolves};
 ghost use Rattle.disk.specs.Answers.{AreApart};
 ghost use Rattle.disk_folder.specs.Ends.{Ends};
-ghost use Rattle.disk_folder.specs.Standing.{AllStand, IsEntry, IsFolderAt};
+ghost use Rattle.disk_folder.specs.Moving.{Follows};
+ghost use Rattle.disk_folder.specs.Standing.{AllStand, IsEntry, IsFolderAt, IsHeld, IsHeldAt, KeepsAll};
 ghost use Rattle.disk_folder.specs.Suits.{Suits};
 
 use crate::open_cache::OpenCache;
@@ -18,6 +19,38 @@ use crate::trouble::{Reason, Trouble, failure};
 use backing::{Answer, Kind};
 use disk::Disk;
 use paths::Path;
+
+/// Whether what is kept there is reached by its name.
+fn is_by_name<D: Disk>(
+    disk: &D,
+    cache: &mut OpenCache<D::Handle>,
+    entry: &Entry<'_, D::Handle>,
+) -> bool
+    requires { IsHeld cache.old entry.now.folder }
+    ensures { KeepsAll cache.old cache.new }
+{
+    match cache.child(&entry.folder, entry.name) {
+        Some(place) => disk.is_by_name(&cache.cache.value(place).handle),
+        None => false,
+    }
+}
+
+/// What is kept under the one name is kept under the other one. Where it is reached by its name, all is closed.
+fn follow<D: Disk>(
+    disk: &D,
+    cache: &mut OpenCache<D::Handle>,
+    source: &Entry<'_, D::Handle>,
+    target: &Entry<'_, D::Handle>,
+)
+    requires { IsHeld cache.old source.now.folder }
+    ensures { (up above : Names) → IsHeldAt cache.old source.now.folder up → IsHeldAt cache.old target.now.folder above → AreApart (up ++ source.now.name.now ∷ []) (above ++ target.now.name.now ∷ []) → Follows cache.old (up ++ source.now.name.now ∷ []) (above ++ target.now.name.now ∷ []) cache.new }
+{
+    if is_by_name(disk, cache, source) {
+        cache.clear();
+    } else {
+        cache.relocate(source, target);
+    }
+}
 
 /// Renames from an open folder to an open folder. Where the system failed, all is closed.
 fn rename_in<D: Disk>(
@@ -39,7 +72,7 @@ fn rename_in<D: Disk>(
         target.name,
     ) {
         Ok(()) => {
-            cache.relocate(source, target);
+            follow(disk, cache, source, target);
             Ok(Answer::Done)
         }
         Err(error) => {
@@ -112,10 +145,21 @@ fn rename_seen<D: Disk>(
 }
 
 /// Where a folder was moved, or may have been, others who serve it hear of that.
-fn note_move<D: Disk>(disk: &D, kind: Kind, moved: &Result<Answer, Trouble>) {
+fn note_move<D: Disk>(
+    disk: &D,
+    cache: &mut OpenCache<D::Handle>,
+    kind: Kind,
+    moved: &Result<Answer, Trouble>,
+)
+    ensures { cache.new.cache ≡ cache.old.cache }
+{
     let is_done = matches!(moved, Ok(_) | Err(Trouble::Failed(_)));
-    if is_done && matches!(kind, Kind::Folder) {
-        disk.note_move();
+    if !is_done || matches!(kind, Kind::File) {
+        return;
+    }
+    disk.note_move();
+    if moved.is_ok() {
+        cache.hear_own(disk.moves());
     }
 }
 
@@ -139,7 +183,7 @@ pub fn rename<D: Disk>(
     match see(disk, cache, from) {
         Ok(seen) => {
             let moved = rename_seen(disk, cache, from, to);
-            note_move(disk, seen.kind, &moved);
+            note_move(disk, cache, seen.kind, &moved);
             moved
         }
         Err(trouble) => Err(trouble),
@@ -166,7 +210,7 @@ fn rename_new_in<D: Disk>(
         target.name,
     ) {
         Ok(()) => {
-            cache.relocate(source, target);
+            follow(disk, cache, source, target);
             Ok(Answer::Done)
         }
         Err(error) => {
@@ -262,7 +306,7 @@ pub fn rename_new<D: Disk>(
     match see(disk, cache, from) {
         Ok(seen) => {
             let moved = rename_new_seen(disk, cache, from, to);
-            note_move(disk, seen.kind, &moved);
+            note_move(disk, cache, seen.kind, &moved);
             moved
         }
         Err(trouble) => Err(trouble),

@@ -39,7 +39,7 @@ pub struct OpenCache<H: Drop> {
     pub capacity: usize,
     /// When the call was made, in milliseconds by the disk's clock.
     pub time: u64,
-    /// How often folders had been removed and names moved, as far as that was heard of.
+    /// How often folders had been removed or moved, as far as that was heard of.
     pub moves: u64,
     /// How often it was heard that others had done so. What was looked at in an earlier epoch may have been moved or removed since.
     pub epoch: u64,
@@ -78,7 +78,7 @@ impl<H: Drop> OpenCache<H> {
         (self.epoch << TIME_BITS) | (self.time & TIMES)
     }
 
-    /// It was looked at a short time ago, and nobody else has moved a name or removed a folder since.
+    /// It was looked at a short time ago, and nobody else has moved or removed a folder since.
     fn is_trusted(&self, place: Place<'_>) -> bool {
         let looked = self.cache.looked(place);
         let same_epoch = looked >> TIME_BITS == self.stamp() >> TIME_BITS;
@@ -204,6 +204,15 @@ impl<H: Drop> OpenCache<H> {
                 Held::Own(_) => self.forget(source),
                 Held::Kept(to) => self.cache.relocate(from, source.name, to, target.name),
             },
+        }
+    }
+
+    /// A move of our own, if that is all that was counted since the call began, is no reason to look once more at what is kept.
+    pub fn hear_own(&mut self, moves: u64)
+        ensures { self.new.cache ≡ self.old.cache }
+    {
+        if moves == self.moves.wrapping_add(1) {
+            self.moves = moves;
         }
     }
 

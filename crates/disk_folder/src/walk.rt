@@ -25,6 +25,7 @@ pub fn identified<D: Disk>(
     handle: D::Handle,
 ) -> Result<Open<D::Handle>, Trouble>
     ensures ok { IfOk result (λ opened. (opened.kind ≡ kind) × (opened.handle ≡ handle)) }
+    ensures access { IfOk result (λ opened. opened.access ≡ access) }
     ensures err { IfErr result IsFailure }
 {
     match disk.inspect(&handle) {

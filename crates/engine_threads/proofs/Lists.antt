@@ -11,35 +11,6 @@ use Rattle.std.proofs.lemmas.List.Elements.{All-cons, All-head, All-nil, All-pus
 pub map_last : {X V : Type 0} (f : X → V) (xs : List X) (x : X) → map f (xs ++ x ∷ []) ≡ map f xs ++ f x ∷ []
 map_last f xs x = map-append f xs (x ∷ [])
 
-module _ {X Y V : Type 0} (f : X → V) (h : Y → V) where
-  -- one more was made from the next element
-  pub more_made : (made : List X) (x : X) (y : Y) (rest : List Y) (whole : List V) → f x ≡ h y → map f made ++ map h (y ∷ rest) ≡ whole → map f (made ++ x ∷ []) ++ map h rest ≡ whole
-  more_made made x y rest whole same e = ap (λ (l : List V). l ++ map h rest) (map_last f made x) ∙ (append_assoc (map f made) (f x ∷ []) (map h rest) ∙ (ap (λ (n : V). map f made ++ n ∷ map h rest) same ∙ e))
-
-  -- the same, where the lists are known by equations
-  pub all_made : (made new : List X) (x : X) (y : Y) (from rest : List Y) (whole : List V) → new ≡ made ++ x ∷ [] → from ≡ y ∷ rest → f x ≡ h y → map f made ++ map h from ≡ whole → map f new ++ map h rest ≡ whole
-  all_made made new x y from rest whole n s same e =
-      ap (λ (l : List X). map f l ++ map h rest) n
-      ∙ more_made made x y rest whole same (ap (λ (l : List Y). map f made ++ map h l) (sym s) ∙ e)
-
--- one more was made together with the next
-pub next_given : {X V : Type 0} (f : X → V) (made new : List X) (x : X) (v : V) (from rest whole : List V) → new ≡ made ++ x ∷ [] → from ≡ v ∷ rest → f x ≡ v → map f made ++ from ≡ whole → map f new ++ rest ≡ whole
-next_given {X} {V} f made new x v from rest whole n s same e =
-    ap (λ (l : List X). map f l ++ rest) n
-    ∙ (ap (λ (l : List V). l ++ rest) (map_last f made x)
-    ∙ (append_assoc (map f made) (f x ∷ []) rest ∙ (ap (λ (k : V). map f made ++ k ∷ rest) same ∙ (ap (λ (l : List V). map f made ++ l) (sym s) ∙ e))))
-
--- one more was added that is made from the next
-pub next_put : {X V : Type 0} (f : X → V) (put new : List V) (v : V) (x : X) (from rest : List X) (whole : List V) → new ≡ put ++ v ∷ [] → from ≡ x ∷ rest → v ≡ f x → put ++ map f from ≡ whole → new ++ map f rest ≡ whole
-next_put {X} {V} f put new v x from rest whole n s same e =
-    ap (λ (l : List V). l ++ map f rest) n
-    ∙ (append_assoc put (v ∷ []) (map f rest) ∙ (ap (λ (k : V). put ++ k ∷ map f rest) same ∙ (ap (λ (l : List X). put ++ map f l) (sym s) ∙ e)))
-
--- nothing is left
-pub none_left : {V : Type 0} (made rest whole : List V) → length rest ≡ 0 → made ++ rest ≡ whole → made ≡ whole
-none_left made [] whole none e = sym (append-nil made) ∙ e
-none_left made (v ∷ rest) whole none e = absurd (omega (arith, none))
-
 module _ {X : Type 0} (P : X → Type 0) where
   -- the first of the remaining ones
   pub first_of : (x : X) (from rest : List X) → from ≡ x ∷ rest → All P from → P x
@@ -54,11 +25,6 @@ module _ {X : Type 0} (P : X → Type 0) where
 pub range_more : (a n : ℕ) → range_with_len a (suc n) ≡ range_with_len a n ++ (a + n) ∷ []
 range_more a zero = let e : a ≡ a + 0 = omega arith in ap (λ k. k ∷ []) e
 range_more a (suc n) = let e : (a + 1) + n ≡ a + suc n = omega arith in ap (λ l. a ∷ l) (range_more (a + 1) n ∙ ap (λ k. range_with_len (a + 1) n ++ k ∷ []) e)
-
--- what is known of a part of an optional value
-pub some_by : {A B : Type 0} (Q : B → Type 0) (f : A → B) (b : B) (o : Option A) → IfSome o (λ a. f a ≡ b) → Q b → IfSome o (λ a. Q (f a))
-some_by Q f b None h q = tt
-some_by Q f b (Some a) h q = subst Q (sym h) q
 
 -- new shares are empty
 pub none_posted : (indices : List ℕ) → All (λ (p : Part). p.totals ≡ nothing) (map (λ (i : ℕ). let p : Part = record { index = i; totals = nothing } in p) indices)
@@ -109,26 +75,6 @@ range_length a (suc n) = ap suc (range_length (a + 1) n)
 pub map_length : {X V : Type 0} (f : X → V) (xs : List X) → length (map f xs) ≡ length xs
 map_length f [] = refl
 map_length f (x ∷ xs) = ap suc (map_length f xs)
-
--- the last two elements of a list that was made from the numbers from 0 on
-pub last_two : {V : Type 0} (f : ℕ → V) (n : ℕ) (all most rest : List V) (one last : V) → all ≡ map f (range_with_len 0 (n + 2)) → all ≡ most ++ last ∷ [] → most ≡ rest ++ one ∷ [] → (rest ≡ map f (range_with_len 0 n)) × (one ≡ f n) × (last ≡ f (n + 1))
-last_two f n all most rest one last made cut again =
-    let more : n + 2 ≡ suc (suc n) = omega arith in
-    let next : 0 + suc n ≡ n + 1 = omega arith in
-    let this : 0 + n ≡ n = omega arith in
-    let whole = made ∙ (ap (λ k. map f (range_with_len 0 k)) more ∙ (ap (map f) (range_more 0 (suc n)) ∙ map_last f (range_with_len 0 (suc n)) (0 + suc n))) in
-    let first = last_same most (map f (range_with_len 0 (suc n))) last (f (0 + suc n)) (sym cut ∙ whole) in
-    let second = last_same rest (map f (range_with_len 0 n)) one (f (0 + n)) (sym again ∙ (first.0 ∙ (ap (map f) (range_more 0 n) ∙ map_last f (range_with_len 0 n) (0 + n)))) in
-    (second.0, second.1 ∙ ap f this, first.1 ∙ ap f next)
-
--- what holds of a value holds of an optional value that is this value
-pub some_same : {A : Type 0} (R Q : A → Type 0) (x : A) (o : Option A) → IfSome o (λ a. (a ≡ x) × R a) → Q x → IfSome o Q
-some_same R Q x None h q = tt
-some_same R Q x (Some a) h q = subst Q (sym h.0) q
-
-pub some_so : {A : Type 0} (P Q : A → Type 0) (o : Option A) → ((a : A) → P a → Q a) → IfSome o P → IfSome o Q
-some_so P Q None f h = tt
-some_so P Q (Some a) f h = f a h
 
 -- what each has leads to something else that each has
 pub all_so : {X : Type 0} (P Q : X → Type 0) (xs : List X) → ((x : X) → P x → Q x) → All P xs → All Q xs

@@ -11,7 +11,7 @@ use crate::worker_end::WorkerEnd;
 use backing::Calls;
 use engine_queues::Job;
 use engine_queues::passes::Passes;
-use engine_turns::{JobReply, Shares};
+use engine_turns::{JobReply, Shares, wait_unless};
 use ledger::Ledgers;
 use std::sync::Wait;
 use table_shared::{Closed, Opening};
@@ -27,11 +27,7 @@ pub struct Parted<C: Calls + Drop> {
 fn wait_unless_next<H: Wait>(rt: &H, passes: &Passes<Job, JobReply>, next: usize)
     ensures { passes.now.number ≡ next }
 {
-    if passes.number == next as u64 {
-        return;
-    }
-    for _ in rt.forever() {}
-    unreachable!()
+    wait_unless(rt, passes.number == next as u64);
 }
 
 /// What the next worker did is what the history has of it. Its share is given back.

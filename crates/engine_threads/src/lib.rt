@@ -15,6 +15,7 @@ mod running;
 mod serving;
 mod session_state;
 mod threads;
+mod traffic;
 mod turns;
 mod waiting;
 mod worker_end;

@@ -126,9 +126,6 @@ writer_send =
     search sendable depth 20
 
 module _ (T : RattleType) (g : Ghosts T.Denot) where
-  pub kept_send : IsSend T → IsSync T → IsSend (ThreadShare.the_row T g)
-  kept_send s y = search (kept.the_send T g, sendable)
-
   module _ (N : RattleType) (n : opening.Ghosts N.Denot) where
     abbrev pub thread_log_row : RattleType
     thread_log_row = ThreadLog.the_row (LogEntry.the_row T g) (Runs.the_row N) (naming.ghosts T N g naming.no_dict n naming.no_dict)

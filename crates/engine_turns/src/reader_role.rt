@@ -12,6 +12,7 @@ ghost use Rattle.engine_turns.specs.Reads.{beginning, HasRead, HasReadAll};
 use crate::origins::Source;
 use crate::reader::Reader;
 use crate::reading::ReaderEnd;
+use crate::waiting::wait_unless;
 use engine::{LinkIn, SessionEnd};
 use std::marker::PhantomData;
 use std::sync::Wait;
@@ -35,11 +36,7 @@ pub struct ReaderRole<I: LinkIn + Drop, S: Source<I>> {
 fn wait_if_returned<H: Wait>(rt: &H, reader: &Reader)
     ensures { reader.now.handed_back ≡ None }
 {
-    if reader.handed_back.is_none() {
-        return;
-    }
-    for _ in rt.forever() {}
-    unreachable!()
+    wait_unless(rt, reader.handed_back.is_none());
 }
 
 impl<I: LinkIn + Drop, S: Source<I>> ReaderRole<I, S> {

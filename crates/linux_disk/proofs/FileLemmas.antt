@@ -3,7 +3,8 @@ use Rattle.std.proofs.Common.{◌≡◌, List, Bool, true, Option, Some, None, I
 use Rattle.std.specs.Arc.{arc_value}
 use Rattle.std.specs.Map.{lookup}
 use Rattle.disk.specs.declared.stat.Access.{Access}
-use Rattle.linux_disk.specs.Files.{IsServed, serves}
+use Rattle.disk.specs.Opened.{serves}
+use Rattle.linux_disk.specs.Files.{IsServed}
 use Rattle.linux_disk.specs.declared.keys.FileKey.{FileKey}
 use Rattle.linux_disk.specs.declared.files.KeptFile.{KeptFile}
 

@@ -101,9 +101,6 @@ names_on : (parts : List (List ℕ)) (part : List ℕ) → flat_map (names_from 
 names_on [] part = append-nil (names_from [] part)
 names_on (first ∷ parts) part = ap (λ (names : List (List ℕ)). names_from [] first ++ names) (names_on parts part) ∙ sym (append_assoc (names_from [] first) (flat_map (names_from []) parts) (names_from [] part))
 
-pub reads_none : {K : Type 0} (advances : K → List ℕ → K → Type 0) (at : K) → ReadsOn advances at at []
-reads_none advances at = record { parts = []; read = refl; tells = refl }
-
 pub reads_on : {K : Type 0} (advances : K → List ℕ → K → Type 0) (old mid new : K) (names names' : List (List ℕ)) (more : Bool) → ReadsOn advances old mid names → ReadsNext advances mid new names names' more → ReadsOn advances old new names'
 reads_on advances old mid new names names' more on next = record {
   parts = on.parts ++ next.part ∷ [];
@@ -113,17 +110,3 @@ reads_on advances old mid new names names' more on next = record {
       subst (λ (told : List (List ℕ)). TellsAll (flat_map (names_from []) (on.parts ++ next.part ∷ [])) told) (sym next.adds.longer)
       (subst (λ (all : List (List ℕ)). TellsAll all (names ++ next.adds.told)) (sym (names_on on.parts next.part)) both);
 }
-
--- the last part has no names
-pub lists_all : {K : Type 0} (begins : ℕ → K → Type 0) (advances : K → List ℕ → K → Type 0) (dir : ℕ) (first last end : K) (names names' : List (List ℕ)) → begins dir first → ReadsOn advances first last names → ReadsNext advances last end names names' false → ListsAll begins advances dir names'
-lists_all begins advances dir first last end names names' begun on next =
-    let none : next.part ≡ [] = next.ended refl in
-    let told : next.adds.told ≡ [] = subst (λ (part : List ℕ). TellsAll (names_from [] part) next.adds.told) none next.adds.tells in
-    record {
-      first = first;
-      last = last;
-      end = end;
-      begun = begun;
-      reads = subst (λ (all : List (List ℕ)). ReadsOn advances first last all) (sym (next.adds.longer ∙ ap (λ (t : List (List ℕ)). names ++ t) told ∙ append-nil names)) on;
-      ended = subst (λ (part : List ℕ). advances last part end) none next.read;
-    }

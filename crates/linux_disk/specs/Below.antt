@@ -39,6 +39,17 @@ pub record WasOpenedDirAt (did : Done → Type 0) (guards : List ℕ → Type 0)
   pub behind : IsBehind guards rest text
   pub done : did (OpenedDirAt text stamp)
 
+-- it holds of the folder there, which was opened for that
+pub record HoldsAt (did : Done → Type 0) (guards : List ℕ → Type 0) (rest : List ℕ) (Holds : ℕ → Type 0) : Type 0 where
+  pub stamp : ℕ
+  pub opened : WasOpenedDirAt did guards rest stamp
+  pub holds : Holds stamp
+
+-- it holds of what is open, or of the folder to which the way leads
+abbrev pub HoldsOfOpen : (did : Done → Type 0) → (guards : List ℕ → Type 0) → (stamp number : ℕ) → (below : Option (List ℕ)) → (Holds : ℕ → Type 0) → Type 0
+HoldsOfOpen did guards stamp number None Holds = Holds stamp
+HoldsOfOpen did guards stamp number (Some way) Holds = HoldsAt did guards (way_to number ++ way) Holds
+
 -- the folder with the name was
 abbrev pub WasOpenedDir : (did : Done → Type 0) → (guards : List ℕ → Type 0) → (dir number : ℕ) → (below : Option (List ℕ)) → (name : List ℕ) → (stamp : ℕ) → Type 0
 WasOpenedDir did guards dir number None name stamp = did (OpenedDir dir name stamp)

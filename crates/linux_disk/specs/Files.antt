@@ -1,19 +1,13 @@
 -- Files that are kept open.
-use Rattle.std.specs.Prelude.{◌≡◌, ◌⊎◌, Bool, true, false, Option, Some, None, List}
+use Rattle.std.specs.Prelude.{◌≡◌, ◌⊎◌, Bool, true, Option, Some, None, List}
 use Rattle.std.specs.Arc.{arc_value}
 use Rattle.std.specs.Map.{lookup, remove_entry}
 use Rattle.lru.specs.LruCache.{LruCache, lru_cache, put_entries}
 use Rattle.disk.specs.declared.stat.Access.{Access}
-use Rattle.disk.specs.declared.stat.Access.TheVariants.{Read, Write}
+use Rattle.disk.specs.Opened.{serves}
 use Rattle.linux_disk.specs.Keys.{same_key}
 use Rattle.linux_disk.specs.declared.keys.FileKey.{FileKey}
 use Rattle.linux_disk.specs.declared.files.KeptFile.{KeptFile}
-
--- what was opened to be read and written serves a reader too
-abbrev pub serves : Access → Access → Bool
-serves Write wanted = true
-serves Read Read = true
-serves Read Write = false
 
 -- it is the file that is kept under that key, and serves
 pub record IsServed {F : Type 0} (files : List (FileKey × KeptFile F)) (is : FileKey → Bool) (access : Access) (found : KeptFile F) : Type 0 where

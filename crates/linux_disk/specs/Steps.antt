@@ -4,7 +4,7 @@ use Rattle.disk.specs.declared.stat.Access.{Access}
 use Rattle.disk.specs.declared.stat.Change.{Change}
 use Rattle.disk.specs.declared.stat.Change.TheVariants.{Permissions, Owner, Times}
 use Rattle.disk.specs.declared.stat.Stat.{Stat}
-use Rattle.linux_disk.specs.Below.{WasLooked}
+use Rattle.linux_disk.specs.Below.{HoldsAt, WasLooked}
 use Rattle.linux_disk.specs.Calls.{Done, OpenedFile, Set, SetAt}
 use Rattle.linux_disk.specs.Places.{way_to}
 use Rattle.linux_disk.specs.Ways.{way_in}
@@ -26,10 +26,16 @@ pub record WasSetAt (did : Done → Type 0) (number : ℕ) (name : List ℕ) (ch
   pub leads : Leads number name text
   pub done : did (SetAt text change)
 
+-- that was set of the folder to which the way leads: by its names, but times once it was opened for that
+abbrev pub WasSetBelow : (did : Done → Type 0) → (guards : List ℕ → Type 0) → (number : ℕ) → (way : List ℕ) → (change : Change) → Type 0
+WasSetBelow did guards number way (Permissions bits) = WasSetAt did number way (Permissions bits)
+WasSetBelow did guards number way (Owner uid gid) = WasSetAt did number way (Owner uid gid)
+WasSetBelow did guards number way (Times accessed modified) = HoldsAt did guards (way_to number ++ way) (λ stamp. did (Set stamp (Times accessed modified)))
+
 -- that was set of what is open, or of the folder to which the way leads
-abbrev pub WasSet : (did : Done → Type 0) → (stamp number : ℕ) → (below : Option (List ℕ)) → (change : Change) → Type 0
-WasSet did stamp number None change = did (Set stamp change)
-WasSet did stamp number (Some way) change = WasSetAt did number way change
+abbrev pub WasSet : (did : Done → Type 0) → (guards : List ℕ → Type 0) → (stamp number : ℕ) → (below : Option (List ℕ)) → (change : Change) → Type 0
+WasSet did guards stamp number None change = did (Set stamp change)
+WasSet did guards stamp number (Some way) change = WasSetBelow did guards number way change
 
 -- nothing is to be set
 abbrev pub IsNothing : Change → Type 0

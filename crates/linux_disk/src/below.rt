@@ -3,14 +3,14 @@
 
 ghost use Rattle.std.specs.Prelude.{◌≡◌, ◌++◌, IfOk, OnOk, Some};
 ghost use Rattle.disk.specs.Names.{IsLawfulName};
-ghost use Rattle.linux_disk.specs.Below.{EntersDir, IsBehind, Reaches, WasLookedAt, WasOpenedDir};
+ghost use Rattle.linux_disk.specs.Below.{EntersDir, IsBehind, Reaches, WasLookedAt, WasOpenedDir, WasOpenedDirAt};
 ghost use Rattle.linux_disk.specs.Held.{held_value};
 ghost use Rattle.linux_disk.specs.Places.{IsBelow, IsReached, way_to};
 
 use crate::again;
 use crate::calls::SystemCalls;
 use crate::handle::Handle;
-use crate::linux::Linux;
+use crate::linux::{Linux, page_of};
 use crate::page::Page;
 use crate::places::{place, place_below, place_way};
 use crate::store::FileStore;
@@ -93,6 +93,29 @@ impl<C: SystemCalls + Drop, S: FileStore<Fd = C::Fd> + Drop> Linux<C, S> {
     {
         self.reach_way(page, above, way)?;
         self.calls.look_at(above, page)
+    }
+
+    /// Opens the folder at the end of the way, which may be read by now: `openat`.
+    pub(crate) fn open_now(&self, above: &C::Fd, way: &Way) -> Result<C::Fd, DiskError>
+        ensures { IfOk result (λ fd. WasOpenedDirAt C.did C.guards (way_to (C.number above.now) ++ way.now) (C.stamp fd)) }
+    {
+        let mut page = page_of(self.alloc, &self.path)?;
+        let told = self.open_way(&mut page, above, way);
+        self.path.keep(page);
+        told
+    }
+
+    /// The same, by that text.
+    pub(crate) fn open_way(
+        &self,
+        page: &mut Page,
+        above: &C::Fd,
+        way: &Way,
+    ) -> Result<C::Fd, DiskError>
+        ensures { IfOk result (λ fd. WasOpenedDirAt C.did C.guards (way_to (C.number above.now) ++ way.now) (C.stamp fd)) }
+    {
+        self.reach_way(page, above, way)?;
+        again::open_dir_at(&self.calls, above, page)
     }
 
     /// Opens the folder at the name: `openat`. One that may not be read (EACCES) is entered, where a look shows it.

@@ -5,7 +5,7 @@ ghost use Rattle.std.specs.Arc.{arc_value};
 ghost use Rattle.std.specs.Map.{lookup};
 ghost use Rattle.std.specs.NonZero.{non_zero_usize_get};
 ghost use Rattle.lru.specs.LruCache.{lru_cache};
-ghost use Rattle.linux_disk.specs.Files.{IsPut, IsServed, Moves, serves, taken_out};
+ghost use Rattle.linux_disk.specs.Files.{IsPut, IsServed, Moves, taken_out};
 ghost use Rattle.linux_disk.specs.Keys.{is_key};
 
 use crate::keys::{FileKey, Query};
@@ -24,16 +24,6 @@ pub struct KeptFile<F> {
     pub(crate) access: Access,
     /// When it was last seen under its name, in milliseconds.
     pub(crate) seen: u64,
-}
-
-/// Whether what was opened for the one serves the other.
-fn serves(access: Access, wanted: Access) -> bool
-    ensures { result ≡ serves access wanted }
-{
-    match (access, wanted) {
-        (Access::Write, _) | (Access::Read, Access::Read) => true,
-        (Access::Read, Access::Write) => false,
-    }
 }
 
 impl<F> KeptFile<F> {
@@ -80,7 +70,7 @@ impl<F: Drop> OpenFiles<F> {
     {
         match self.files.get(query) {
             Some(kept) => {
-                if serves(kept.access, access) {
+                if kept.access.serves(access) {
                     kept.copy()
                 } else {
                     None

@@ -23,6 +23,8 @@ pub(crate) struct Seen<C: SystemCalls> {
     pub(crate) is_private: bool,
     /// How often the rights of folders had been set then.
     pub(crate) rights: u64,
+    /// When, in milliseconds.
+    pub(crate) at: u64,
     pub(crate) told_by: PhantomData<C>,
     ghost safe: { ∥ (IsTrue is_private → WasPrivate C.did user stamp) ∥₁ },
 }

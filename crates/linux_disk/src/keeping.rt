@@ -21,8 +21,9 @@ use errno::ENOMEM;
 use paths::Name;
 use std::sync::Arc;
 
-/// How long a file that is kept open is taken to stand under its name without a look, in milliseconds.
-const TRUSTED: u64 = 1_000;
+/// How long what was seen is taken to be so without a look, in milliseconds: that a file that is kept open stands under its name, and that nobody
+/// else may change the names in a folder.
+pub(crate) const TRUSTED: u64 = 1_000;
 
 impl<C: SystemCalls + Drop, S: FileStore<Fd = C::Fd> + Drop> Linux<C, S> {
     /// Opens the file at the name, or takes it where it is kept open.
@@ -43,7 +44,8 @@ impl<C: SystemCalls + Drop, S: FileStore<Fd = C::Fd> + Drop> Linux<C, S> {
         Ok(Handle::file(Held::Own(fd)))
     }
 
-    /// The file that is kept open, or else what is opened and then kept.
+    /// The file that is kept open and stands under the name, or else what is opened. That is kept if a look then shows it there: a link that
+    /// was followed is not.
     fn open_kept(
         &self,
         page: &mut Page,
@@ -54,15 +56,18 @@ impl<C: SystemCalls + Drop, S: FileStore<Fd = C::Fd> + Drop> Linux<C, S> {
         requires { IsLawfulName name.now }
     {
         let query = Query::new(self.id_of(page, dir)?, name);
-        let (found, moves) = self.store.find(query, access);
-        if let Some(kept) = found {
-            if self.is_still_there(page, dir, query, &kept) {
+        if let Some(kept) = self.store.find(query, access) {
+            if self.is_there(page, dir, query, &kept) {
                 let KeptFile { file, .. } = kept;
                 return Ok(Handle::file(Held::Shared(file)));
             }
         }
+        let moves = self.store.moves();
         let fd = self.open_new(page, dir, name, access)?;
-        self.keep_open(query, fd, access, moves)
+        match self.shows(page, dir, name, &fd) {
+            Some(true) => self.keep_open(query, fd, access, moves),
+            _ => Ok(Handle::file(Held::Own(fd))),
+        }
     }
 
     /// The handle of what was opened, which is kept open too.
@@ -100,8 +105,7 @@ impl<C: SystemCalls + Drop, S: FileStore<Fd = C::Fd> + Drop> Linux<C, S> {
         requires { IsLawfulName name.now }
     {
         let query = Query::new(self.id_of(page, dir).ok()?, name);
-        let (found, _moves) = self.store.find(query, access);
-        let kept = found?;
+        let kept = self.store.find(query, access)?;
         if self.is_still_there(page, dir, query, &kept) {
             let KeptFile { file, .. } = kept;
             Some(Handle::file(Held::Shared(file)))
@@ -110,8 +114,7 @@ impl<C: SystemCalls + Drop, S: FileStore<Fd = C::Fd> + Drop> Linux<C, S> {
         }
     }
 
-    /// Whether the file that is kept stands under its name: as it was seen within a second, or by a look. One that does not is not kept any
-    /// more.
+    /// Whether the file that is kept stands under its name: as it was seen within a second, or by a look.
     fn is_still_there(
         &self,
         page: &mut Page,
@@ -122,31 +125,46 @@ impl<C: SystemCalls + Drop, S: FileStore<Fd = C::Fd> + Drop> Linux<C, S> {
         requires { IsLawfulName query.name.now }
     {
         let now = self.calls.milliseconds();
-        if now.saturating_sub(kept.seen) <= TRUSTED {
-            return true;
-        }
-        if self.stands_there(page, dir, query.name, &kept.file) {
-            self.store.touch(query, now);
-            return true;
-        }
-        self.store.forget(query);
-        false
+        now.saturating_sub(kept.seen) <= TRUSTED || self.is_there(page, dir, query, kept)
     }
 
-    /// Whether the name leads to that file: two calls of `statx`. Where the system does not tell, as where rights are missing, it is taken to.
-    fn stands_there(&self, page: &mut Page, dir: &Handle<C>, name: &Name, file: &C::Fd) -> bool
+    /// Whether a look shows the file that is kept under its name. One that is not there is not kept any more. Where the system does not tell,
+    /// as where rights are missing, it is taken to be there.
+    fn is_there(
+        &self,
+        page: &mut Page,
+        dir: &Handle<C>,
+        query: Query<'_>,
+        kept: &KeptFile<C::Fd>,
+    ) -> bool
+        requires { IsLawfulName query.name.now }
+    {
+        match self.shows(page, dir, query.name, &kept.file) {
+            Some(false) => {
+                self.store.forget(query);
+                false
+            }
+            _ => {
+                self.store.touch(query, self.calls.milliseconds());
+                true
+            }
+        }
+    }
+
+    /// Whether the name leads to that file: two calls of `statx`. None where the system does not tell.
+    fn shows(&self, page: &mut Page, dir: &Handle<C>, name: &Name, file: &C::Fd) -> Option<bool>
         requires { IsLawfulName name.now }
     {
         match self.look_at(page, dir, name) {
             Ok(there) => {
                 page.clear();
                 match self.calls.inspect(file, page) {
-                    Ok(own) => own.id.is(&there.id),
-                    Err(_) => false,
+                    Ok(own) => Some(own.id.is(&there.id)),
+                    Err(_) => Some(false),
                 }
             }
-            Err(DiskError::Absent) => false,
-            Err(_) => true,
+            Err(DiskError::Absent) => Some(false),
+            Err(_) => None,
         }
     }
 
@@ -204,9 +222,10 @@ impl<C: SystemCalls + Drop, S: FileStore<Fd = C::Fd> + Drop> Linux<C, S> {
         if !self.store.keeps() {
             return self.move_name(pages, from_dir, from, to_dir, to);
         }
-        let from_key = Query::new(self.id_by_page(from_dir)?, from);
-        let to_key = Query::new(self.id_by_page(to_dir)?, to);
-        let told = self.move_name(pages, from_dir, from, to_dir, to);
+        let (old, new) = pages;
+        let from_key = Query::new(self.id_of(old, from_dir)?, from);
+        let to_key = Query::new(self.id_of(new, to_dir)?, to);
+        let told = self.move_name((old, new), from_dir, from, to_dir, to);
         match &told {
             Ok(()) => self.store.relocate(from_key, to_key),
             Err(DiskError::Failed(_)) => {

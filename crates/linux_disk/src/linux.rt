@@ -101,7 +101,7 @@ impl<C: SystemCalls + Drop, S: FileStore<Fd = C::Fd> + Drop> Linux<C, S> {
         })
     }
 
-    /// The same folder for another thread, which shares the files that are kept open and hears of the names that go or move.
+    /// The same folder for another thread, which shares the files that are kept open and hears of the folders that are removed or moved.
     pub fn share(&self) -> Result<Linux<C, S>, DiskError> {
         let root = again::open_again(&self.calls, &self.root)?;
         match self.share_parts() {

@@ -1,9 +1,12 @@
 //! The names in a folder.
 
 ghost use Rattle.std.specs.Prelude.{IfOk, OnOk};
+ghost use Rattle.linux_disk.specs.Below.{HoldsOfOpen};
+ghost use Rattle.linux_disk.specs.Held.{held_value};
 ghost use Rattle.linux_disk.specs.Listings.{AddsName, AddsPart, ListsAll, ReadsNext};
 
 use crate::calls::SystemCalls;
+use crate::handle::Handle;
 use crate::linux::Linux;
 use crate::store::FileStore;
 use disk::{DiskError, is_lawful};
@@ -16,12 +19,25 @@ use std::str;
 const NAMES_ROOM: usize = 32_768;
 
 impl<C: SystemCalls + Drop, S: FileStore<Fd = C::Fd> + Drop> Linux<C, S> {
-    /// The names that are text, but `.` and `..`: `lseek`, and `getdents` until there is none.
-    pub(crate) fn list_open(
+    /// The names in the folder: one to which a way leads is opened for that.
+    pub(crate) fn list_in(
         &self,
         buffer: &mut Vec<u8>,
-        dir: &C::Fd,
+        dir: &Handle<C>,
     ) -> Result<Vec<Name>, DiskError>
+        ensures { IfOk result (λ names. HoldsOfOpen C.did C.guards (C.stamp (held_value dir.now.held)) (C.number (held_value dir.now.held)) dir.now.below (λ stamp. ListsAll C.begins C.advances stamp names.items)) }
+    {
+        match &dir.below {
+            None => self.list_open(buffer, dir.fd()),
+            Some(way) => {
+                let fd = self.open_now(dir.fd(), way)?;
+                self.list_open(buffer, &fd)
+            }
+        }
+    }
+
+    /// The names that are text, but `.` and `..`: `lseek`, and `getdents` until there is none.
+    fn list_open(&self, buffer: &mut Vec<u8>, dir: &C::Fd) -> Result<Vec<Name>, DiskError>
         ensures { IfOk result (λ names. ListsAll C.begins C.advances (C.stamp dir.now) names.items) }
     {
         let mut at = self.calls.rewind(dir)?;

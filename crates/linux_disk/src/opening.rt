@@ -4,7 +4,7 @@ ghost use Rattle.std.specs.Prelude.{◌≡◌, ◌⊎◌, ◌++◌, IsTrue, IfOk
 ghost use Rattle.disk.specs.Names.{IsLawfulName};
 ghost use Rattle.linux_disk.specs.Held.{held_value};
 ghost use Rattle.linux_disk.specs.Below.{WasLooked};
-ghost use Rattle.linux_disk.specs.Steps.{IsNothing, WasOpened, WasSet, WasSetAt};
+ghost use Rattle.linux_disk.specs.Steps.{IsNothing, WasOpened, WasSet, WasSetAt, WasSetBelow};
 ghost use Rattle.linux_disk.specs.Ways.{way_in};
 
 use crate::again;
@@ -14,6 +14,7 @@ use crate::linux::Linux;
 use crate::page::Page;
 use crate::places::name_alone;
 use crate::store::FileStore;
+use crate::way::Way;
 use disk::{Access, Change, DiskError, Stat};
 use paths::Name;
 
@@ -74,14 +75,14 @@ impl<C: SystemCalls + Drop, S: FileStore<Fd = C::Fd> + Drop> Linux<C, S> {
         again::open_file(&self.calls, dir.fd(), page, access)
     }
 
-    /// Sets it of what is open: `fchmod`, `fchown` or `futimens`. Of a folder that may not be read: `chmod` or `lchown`.
+    /// Sets it of what is open: `fchmod`, `fchown` or `futimens`. Of a folder that could not be read: `chmod`, `lchown`, or `openat` and `futimens`.
     pub(crate) fn set_open(
         &self,
         page: &mut Page,
         handle: &Handle<C>,
         change: Change,
     ) -> Result<(), DiskError>
-        ensures { OnOk result (IsNothing change ⊎ WasSet C.did (C.stamp (held_value handle.now.held)) (C.number (held_value handle.now.held)) handle.now.below change) }
+        ensures { OnOk result (IsNothing change ⊎ WasSet C.did C.guards (C.stamp (held_value handle.now.held)) (C.number (held_value handle.now.held)) handle.now.below change) }
     {
         if is_nothing(change) {
             return Ok(());
@@ -94,18 +95,37 @@ impl<C: SystemCalls + Drop, S: FileStore<Fd = C::Fd> + Drop> Linux<C, S> {
     }
 
     fn set_once(&self, page: &mut Page, handle: &Handle<C>, change: Change) -> Result<(), DiskError>
-        ensures { OnOk result (WasSet C.did (C.stamp (held_value handle.now.held)) (C.number (held_value handle.now.held)) handle.now.below change) }
+        ensures { OnOk result (WasSet C.did C.guards (C.stamp (held_value handle.now.held)) (C.number (held_value handle.now.held)) handle.now.below change) }
     {
         match &handle.below {
             None => again::set(&self.calls, handle.fd(), change),
-            Some(way) => {
-                self.reach_way(page, handle.fd(), way)?;
-                again::set_at(&self.calls, handle.fd(), page, change)
+            Some(way) => self.set_below(page, handle.fd(), way, change),
+        }
+    }
+
+    /// No call of the kit sets times by a name, so for these the folder is opened.
+    fn set_below(
+        &self,
+        page: &mut Page,
+        above: &C::Fd,
+        way: &Way,
+        change: Change,
+    ) -> Result<(), DiskError>
+        ensures { OnOk result (WasSetBelow C.did C.guards (C.number above.now) way.now change) }
+    {
+        match change {
+            Change::Permissions(_) | Change::Owner { .. } => {
+                self.reach_way(page, above, way)?;
+                again::set_at(&self.calls, above, page, change)
+            }
+            Change::Times { .. } => {
+                let fd = self.open_way(page, above, way)?;
+                again::set(&self.calls, &fd, change)
             }
         }
     }
 
-    /// Sets it of what stands at the name: `chmod` or `lchown`, and `statx` where the folder has not been seen yet.
+    /// Sets it of what stands at the name: `chmod` or `lchown`, behind the guard, since nothing is compared afterwards.
     pub(crate) fn set_named(
         &self,
         page: &mut Page,
@@ -119,7 +139,7 @@ impl<C: SystemCalls + Drop, S: FileStore<Fd = C::Fd> + Drop> Linux<C, S> {
         if is_nothing(change) {
             return Ok(());
         }
-        self.safe_place(page, dir, name)?;
+        self.guarded_place(page, dir, name)?;
         let told = again::set_at(&self.calls, dir.fd(), page, change);
         if is_about_rights(change) {
             self.counts.note_rights();

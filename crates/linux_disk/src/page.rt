@@ -1,6 +1,6 @@
 //! A text as the calls of the C library take it.
 
-ghost use Rattle.std.specs.Prelude.{◌≡◌, ◌≢◌, ◌<◌, ◌+◌, ◌++◌, ◌↔◌, [], All, IsTrue, OnOk, OnErr, length, slice_index_or};
+ghost use Rattle.std.specs.Prelude.{◌≡◌, ◌≢◌, ◌<◌, ◌+◌, ◌++◌, ◌↔◌, [], All, IsTrue, OnOk, OnErr, slice_index_or};
 ghost use Rattle.libc.specs.Io.{Ended};
 
 use libc::PATH_MAX;
@@ -54,13 +54,6 @@ impl Page {
     {
         self.bytes[0] = 0;
         self.len = 0;
-    }
-
-    /// How long the text is.
-    pub fn len(&self) -> usize
-        ensures { result ≡ length self.now }
-    {
-        self.len
     }
 
     /// Adds that to the text, if there is room.

@@ -11,6 +11,7 @@ ghost use Rattle.linux_disk.specs.Ways.{way_in};
 
 use crate::calls::SystemCalls;
 use crate::handle::{Handle, Seen};
+use crate::keeping::TRUSTED;
 use crate::linux::Linux;
 use crate::page::Page;
 use crate::places::place;
@@ -40,6 +41,7 @@ fn seen_of<C: SystemCalls>(calls: &C, dir: &C::Fd, stat: &Stat, rights: u64) -> 
         user,
         is_private: is_private(stat, user),
         rights,
+        at: calls.milliseconds(),
         told_by: PhantomData,
     }
 }
@@ -73,8 +75,8 @@ impl<C: SystemCalls + Drop, S: FileStore<Fd = C::Fd> + Drop> Linux<C, S> {
         Ok(stat)
     }
 
-    /// Whether nobody else may change the names in the folder: as it was seen, or by a look if nothing of it was seen yet or the rights of
-    /// a folder were set since.
+    /// Whether nobody else may change the names in the folder: as it was seen within a second, or by a look if the rights of a folder were set
+    /// since.
     fn is_private(&self, page: &mut Page, dir: &Handle<C>) -> Result<bool, DiskError>
         ensures { IfOk result (λ safe. IsTrue safe → ∥ WasPrivate C.did (C.user self.now.calls) (C.stamp (held_value dir.now.held)) ∥₁) }
     {
@@ -89,7 +91,7 @@ impl<C: SystemCalls + Drop, S: FileStore<Fd = C::Fd> + Drop> Linux<C, S> {
         Ok(is_private(&stat, self.calls.user()))
     }
 
-    /// Whether that was seen of this very folder, and no rights were set since.
+    /// Whether that was seen of this very folder within a second, and no rights were set by us since.
     fn is_fresh(&self, dir: &Handle<C>, seen: &Seen<C>) -> bool
         ensures stamp { IsTrue result → seen.now.stamp ≡ C.stamp (held_value dir.now.held) }
         ensures user { IsTrue result → seen.now.user ≡ C.user self.now.calls }
@@ -97,6 +99,7 @@ impl<C: SystemCalls + Drop, S: FileStore<Fd = C::Fd> + Drop> Linux<C, S> {
         seen.stamp == self.calls.stamp(dir.fd())
             && seen.user == self.calls.user()
             && seen.rights == self.counts.rights()
+            && self.calls.milliseconds().saturating_sub(seen.at) <= TRUSTED
     }
 
     /// The text leads to the name in the folder and follows no link there: behind the guard, where somebody else may put a link in the folder.
@@ -111,27 +114,34 @@ impl<C: SystemCalls + Drop, S: FileStore<Fd = C::Fd> + Drop> Linux<C, S> {
         ensures leads { OnOk result (Leads (C.number (held_value dir.now.held)) (way_in dir.now.below ++ name.now) page.new) }
     {
         match &dir.below {
-            None => self.safe_place_in(page, dir, name),
-            Some(way) => self.reach_below(page, dir.fd(), way, name),
+            None => {
+                if self.is_private(page, dir)? {
+                    let number = self.calls.number(dir.fd());
+                    place(page, b"", number, name.as_str().as_bytes())
+                } else {
+                    self.guarded_place(page, dir, name)
+                }
+            }
+            Some(_) => self.guarded_place(page, dir, name),
         }
     }
 
-    /// The same in a folder that is open itself.
-    fn safe_place_in(&self, page: &mut Page, dir: &Handle<C>, name: &Name) -> Result<(), DiskError>
+    /// The same behind the guard, whoever may write in the folder.
+    pub(crate) fn guarded_place(
+        &self,
+        page: &mut Page,
+        dir: &Handle<C>,
+        name: &Name,
+    ) -> Result<(), DiskError>
         requires { IsLawfulName name.now }
         ensures safe { OnOk result (IsSafe C.guards C.did (C.user self.now.calls) (C.number (held_value dir.now.held)) (C.stamp (held_value dir.now.held)) page.new) }
-        ensures leads { OnOk result (Leads (C.number (held_value dir.now.held)) name.now page.new) }
+        ensures leads { OnOk result (Leads (C.number (held_value dir.now.held)) (way_in dir.now.below ++ name.now) page.new) }
     {
+        let guard = self.guard.text.text();
         let number = self.calls.number(dir.fd());
-        if self.is_private(page, dir)? {
-            place(page, b"", number, name.as_str().as_bytes())
-        } else {
-            place(
-                page,
-                self.guard.text.text(),
-                number,
-                name.as_str().as_bytes(),
-            )
+        match &dir.below {
+            None => place(page, guard, number, name.as_str().as_bytes()),
+            Some(way) => self.reach_below(page, dir.fd(), way, name),
         }
     }
 }

@@ -3,7 +3,7 @@
 ghost use Rattle.std.specs.Prelude.{◌≡◌, ◌⊎◌, ◌≤◌, ◌++◌, false, None, IfOk, OnOk, length, take};
 ghost use Rattle.disk.specs.Names.{IsLawfulName};
 ghost use Rattle.linux_disk.specs.Held.{held_value};
-ghost use Rattle.linux_disk.specs.Below.{EntersDir, Reaches, WasInspected, WasLooked, WasMadeDir, WasMadeFile, WasRemovedDir, WasRemovedFile, WasRenamed};
+ghost use Rattle.linux_disk.specs.Below.{EntersDir, HoldsOfOpen, Reaches, WasInspected, WasLooked, WasMadeDir, WasMadeFile, WasRemovedDir, WasRemovedFile, WasRenamed};
 ghost use Rattle.linux_disk.specs.Calls.{Done, OpenedAgain, Read, Wrote, SetLen, Synced};
 ghost use Rattle.linux_disk.specs.Listings.{ListsAll};
 ghost use Rattle.linux_disk.specs.Steps.{HasBits, HasBitsAt, IsNothing, ReadsNone, WasOpened, WasSet, WasSetAt, bits_of};
@@ -15,7 +15,7 @@ use crate::handle::Handle;
 use crate::linux::{Linux, page_of};
 use crate::store::FileStore;
 use disk::{Access, Change, DiskError, Stat, System};
-use errno::{EACCES, EFBIG};
+use errno::EFBIG;
 use paths::Name;
 use std::alloc::Global;
 
@@ -60,6 +60,10 @@ impl<C: SystemCalls + Drop, S: FileStore<Fd = C::Fd> + Drop> System for Linux<C,
         let found = self.find_kept(&mut page, dir, name, access);
         self.path.keep(page);
         found
+    }
+
+    fn is_by_name(&self, dir: &Handle<C>) -> bool {
+        dir.below.is_some()
     }
 
     /// `openat`.
@@ -127,33 +131,31 @@ impl<C: SystemCalls + Drop, S: FileStore<Fd = C::Fd> + Drop> System for Linux<C,
         again::read_at(&self.calls, file.fd(), buffer, offset)
     }
 
-    /// A folder that may not be read is EACCES (own).
+    /// `lseek`, and `getdents` until there is no name. A folder that could not be read is opened first: `openat`.
     fn list(&self, dir: &Handle<C>) -> Result<Vec<Name>, DiskError>
-        ensures names { IfOk result (λ names. ListsAll C.begins C.advances (C.stamp (held_value dir.now.held)) names.items) }
-        ensures open { OnOk result (dir.now.below ≡ None) }
+        ensures { IfOk result (λ names. HoldsOfOpen C.did C.guards (C.stamp (held_value dir.now.held)) (C.number (held_value dir.now.held)) dir.now.below (λ stamp. ListsAll C.begins C.advances stamp names.items)) }
     {
-        if dir.below.is_some() {
-            return Err(DiskError::Failed(EACCES));
-        }
         let mut room = self.names_room()?;
-        let told = self.list_open(&mut room, dir.fd());
+        let told = self.list_in(&mut room, dir);
         self.names.keep(room);
         told
     }
 
-    /// `fsync`. A folder that may not be read is EACCES (own).
+    /// `fsync`. A folder that could not be read is opened first: `openat`.
     fn sync(&self, handle: &Handle<C>) -> Result<(), DiskError>
-        ensures synced { OnOk result (C.did (Synced (C.stamp (held_value handle.now.held)))) }
-        ensures open { OnOk result (handle.now.below ≡ None) }
+        ensures { OnOk result (HoldsOfOpen C.did C.guards (C.stamp (held_value handle.now.held)) (C.number (held_value handle.now.held)) handle.now.below (λ stamp. C.did (Synced stamp))) }
     {
-        if handle.below.is_some() {
-            return Err(DiskError::Failed(EACCES));
+        match &handle.below {
+            None => again::sync(&self.calls, handle.fd()),
+            Some(way) => {
+                let fd = self.open_now(handle.fd(), way)?;
+                again::sync(&self.calls, &fd)
+            }
         }
-        again::sync(&self.calls, handle.fd())
     }
 
     fn set(&self, handle: &Handle<C>, change: Change) -> Result<(), DiskError>
-        ensures { OnOk result (IsNothing change ⊎ WasSet C.did (C.stamp (held_value handle.now.held)) (C.number (held_value handle.now.held)) handle.now.below change) }
+        ensures { OnOk result (IsNothing change ⊎ WasSet C.did C.guards (C.stamp (held_value handle.now.held)) (C.number (held_value handle.now.held)) handle.now.below change) }
     {
         let mut page = page_of(self.alloc, &self.path)?;
         let told = self.set_open(&mut page, handle, change);

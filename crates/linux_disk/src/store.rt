@@ -26,8 +26,8 @@ pub trait FileStore {
     /// How often a name went or moved.
     fn moves(&self) -> u64;
 
-    /// The file that is kept there and serves, and how often a name had gone or moved then.
-    fn find(&self, query: Query<'_>, access: Access) -> (Option<KeptFile<Self::Fd>>, u64);
+    /// The file that is kept there and serves.
+    fn find(&self, query: Query<'_>, access: Access) -> Option<KeptFile<Self::Fd>>;
 
     /// Keeps it there, unless a name went or moved since that count was read, or there is no memory.
     fn put(&self, query: Query<'_>, kept: KeptFile<Self::Fd>, moves: u64);
@@ -70,8 +70,8 @@ impl<F: Drop> FileStore for NoFiles<F> {
         0
     }
 
-    fn find(&self, _query: Query<'_>, _access: Access) -> (Option<KeptFile<F>>, u64) {
-        (None, 0)
+    fn find(&self, _query: Query<'_>, _access: Access) -> Option<KeptFile<F>> {
+        None
     }
 
     fn put(&self, _query: Query<'_>, _kept: KeptFile<F>, _moves: u64) {}
@@ -123,10 +123,8 @@ impl<F: Drop, R: Wait + Clone + Drop> FileStore for SharedFiles<F, R> {
         self.open.lock(&self.rt).moves
     }
 
-    fn find(&self, query: Query<'_>, access: Access) -> (Option<KeptFile<F>>, u64) {
-        let mut open = self.open.lock(&self.rt);
-        let found = open.find(query, access);
-        (found, open.moves)
+    fn find(&self, query: Query<'_>, access: Access) -> Option<KeptFile<F>> {
+        self.open.lock(&self.rt).find(query, access)
     }
 
     fn put(&self, query: Query<'_>, kept: KeptFile<F>, moves: u64) {

@@ -1,8 +1,8 @@
 -- The command line, as clap reads it.
-use Rattle.std.specs.Prelude.{ℕ, ◌≡◌, ◌≢◌, ◌<◌, ◌≤◌, ◌^◌, bytes_eq, ◌⊎◌, pos, Bool, true, false, is_some, List, [], ◌∷◌, codes, Option, Some, None}
-use Rattle.std.specs.List.{list_any}
+use Rattle.std.specs.Prelude.{ℕ, ◌≡◌, ◌≢◌, ◌<◌, ◌≤◌, ◌^◌, bytes_eq, ◌⊎◌, pos, Bool, true, false, is_some, List, [], ◌∷◌, codes, Option, Some, None, unwrap_or}
+use Rattle.std.specs.List.{find, list_any}
 use Rattle.std.specs.Str.Parse.{IsNumeral, without_leading_plus, digits_value}
-use Rattle.clap.specs.Words.{App, Row, Rule, Text, first_of, new_app, new_rule, one_of, with_rule, with_subcommand}
+use Rattle.clap.specs.Words.{App, Row, Rule, Shape, Text, first_of, new_app, new_rule, one_of, with_rule, with_subcommand}
 use Rattle.clap.specs.declared.builder.action.ArgAction.TheVariants.{Set, SetTrue}
 use Rattle.clap.specs.declared.builder.value_parser.ValueParser.TheVariants.{Signed}
 use Rattle.terms.specs.declared.settings.Settings.{Settings}
@@ -179,23 +179,31 @@ abbrev pub AreSettings : List Row → Settings → Type 0
 AreSettings rows (Fixed uid gid) = IsText (codes "attributes") rows (codes "fixed") × IsNumber (codes "uid") rows uid × IsNumber (codes "gid") rows gid
 AreSettings rows Host = IsText (codes "attributes") rows (codes "host") × (is_given (codes "uid") rows ≡ false) × (is_given (codes "gid") rows ≡ false)
 
--- why nothing can be served with these options: attributes or counts are neither of their two words, an owner is given
--- with attributes of the host, a number is none, or the threads are not 1 to 4
-abbrev pub AreRefused : List Row → OptionsRefusal → Type 0
-AreRefused rows Attributes = (text : Text) × IsText (codes "attributes") rows text × (text ≢ codes "fixed") × (text ≢ codes "host")
-AreRefused rows refusals.Counts = (text : Text) × IsText (codes "counts") rows text × (text ≢ codes "bounded") × (text ≢ codes "free")
-AreRefused rows refusals.Number = (id : Text) × (takes_number id ≡ true) × (text : Text) × IsNumberText id rows text × (IsSpelt text → ⊥)
-AreRefused rows refusals.Workers = (n : ℕ) × IsNumber (codes "workers") rows n × ((n ≡ 0) ⊎ (4 < n))
-AreRefused rows Owner = IsText (codes "attributes") rows (codes "host") × ((is_given (codes "uid") rows ≡ true) ⊎ (is_given (codes "gid") rows ≡ true))
+-- why the value of an option is refused: attributes or counts are neither of their two words, attributes are those of the
+-- host although an owner is given, a number is none, or the threads are not 1 to 4
+abbrev pub IsValueRefused : (id : Text) → List Row → OptionsRefusal → Type 0
+IsValueRefused id rows Attributes = (id ≡ codes "attributes") × (text : Text) × IsText id rows text × (text ≢ codes "fixed") × (text ≢ codes "host")
+IsValueRefused id rows refusals.Counts = (id ≡ codes "counts") × (text : Text) × IsText id rows text × (text ≢ codes "bounded") × (text ≢ codes "free")
+IsValueRefused id rows Owner = (id ≡ codes "attributes") × IsText id rows (codes "host") × ((is_given (codes "uid") rows ≡ true) ⊎ (is_given (codes "gid") rows ≡ true))
+IsValueRefused id rows refusals.Number = (takes_number id ≡ true) × (text : Text) × IsNumberText id rows text × (IsSpelt text → ⊥)
+IsValueRefused id rows refusals.Workers = (id ≡ codes "workers") × (n : ℕ) × IsNumber id rows n × ((n ≡ 0) ⊎ (4 < n))
+
+-- the subcommand with that name. Clap takes no name but those of the four, so any other may stand for `hex`
+abbrev pub subcommand_named : Text → Shape
+subcommand_named name = unwrap_or (find (λ s. bytes_eq s.name name) mirrord_app.subs) hex_app.top
+
+-- whether the subcommand with that name has that option
+abbrev pub has_option : (name id : Text) → Bool
+has_option name id = list_any (λ rule. bytes_eq rule.id id) (subcommand_named name).rules
+
+-- why the subcommand with that name can do nothing: the value of an option that it has is refused
+abbrev pub AreRefused : (name : Text) → List Row → OptionsRefusal → Type 0
+AreRefused name rows refusal = (id : Text) × (has_option name id ≡ true) × IsValueRefused id rows refusal
 
 -- the settings of a session
 pub record AreTerms (rows : List Row) (terms : Terms) : Type 0 where
   pub settings : AreSettings rows terms.settings
   pub bounds : AreBounds rows terms.bounds
-
--- the subcommands that serve a folder
-abbrev pub IsFolderServed : Text → Type 0
-IsFolderServed name = (name ≡ codes "serve") ⊎ ((name ≡ codes "pipe") ⊎ (name ≡ codes "device"))
 
 -- what the subcommand with that name asks for, which was read with these rows
 abbrev pub IsAskedBy : Text → List Row → Options → Type 0
@@ -206,7 +214,7 @@ IsAskedBy name rows (Pipe root terms) = (name ≡ codes "pipe") × IsText (codes
 IsAskedBy name rows (Device root workers single terms) =
     (name ≡ codes "device") × IsText (codes "root") rows root.now
     × AreWorkers rows workers × IsFlag (codes "single") rows single × AreTerms rows terms
-IsAskedBy name rows (Refused refusal) = ((refusal ≡ refusals.Number) ⊎ IsFolderServed name) × AreRefused rows refusal
+IsAskedBy name rows (Refused refusal) = AreRefused name rows refusal
 IsAskedBy name rows (Hex sample postings) = (name ≢ codes "serve") × (name ≢ codes "pipe") × (name ≢ codes "device") × IsFlag (codes "sample") rows sample × IsNumber (codes "postings") rows postings
 
 abbrev pub IsAsked : Option (Text × List Row) → Options → Type 0

@@ -3,9 +3,8 @@
 ghost use Rattle.std.specs.Prelude.{◌≡◌, ◌≢◌, codes, true, map, IfErr, IfOk, MatchOption, MatchResult};
 ghost use Rattle.clap.specs.Words.{Text, fault_of, first_of, found_of, kind_of, rows_of, subcommand_of, subcommand_rows_of, takes, FailsBy};
 ghost use Rattle.clap.specs.declared.error.kind.ErrorKind.TheVariants.{OutOfMemory};
-ghost use Rattle.mirrord_commands.specs.CommandLine.{mirrord_app, AreBounds, AreCounts, AreRefused, AreSettings, AreTerms, AreWorkers, IsAsked, IsAskedBy, IsFlag, IsNumber, IsSpelt, IsText, Spells, TextReads, is_given, takes_number};
+ghost use Rattle.mirrord_commands.specs.CommandLine.{mirrord_app, AreBounds, AreCounts, AreRefused, AreSettings, AreTerms, AreWorkers, IsAsked, IsAskedBy, IsFlag, IsNumber, IsSpelt, IsText, IsValueRefused, Spells, TextReads, is_given, takes_number};
 ghost use Rattle.mirrord_commands.specs.declared.options.Options.TheVariants.{Refused};
-ghost use Rattle.mirrord_commands.specs.declared.refusals.OptionsRefusal.TheVariants.{Number};
 
 use crate::arguments::DEFAULT_POSTINGS;
 use crate::command::command;
@@ -88,7 +87,7 @@ fn number_of(text: &str) -> Option<u32>
 fn number_in(matches: &ArgMatches<'_>, name: &str) -> Result<u32, OptionsRefusal>
     requires { takes_number name.now ≡ true }
     ensures ok { IfOk result (IsNumber name.now (rows_of (found_of matches.now))) }
-    ensures err { IfErr result (λ refusal. (refusal ≡ Number) × AreRefused (rows_of (found_of matches.now)) refusal) }
+    ensures err { IfErr result (IsValueRefused name.now (rows_of (found_of matches.now))) }
 {
     match number_of(text_or(matches, name, "0")) {
         Some(number) => Ok(number),
@@ -99,7 +98,7 @@ fn number_in(matches: &ArgMatches<'_>, name: &str) -> Result<u32, OptionsRefusal
 /// How many threads serve.
 fn workers_in(matches: &ArgMatches<'_>) -> Result<u8, OptionsRefusal>
     ensures ok { IfOk result (AreWorkers (rows_of (found_of matches.now))) }
-    ensures err { IfErr result (AreRefused (rows_of (found_of matches.now))) }
+    ensures err { IfErr result (IsValueRefused (codes "workers") (rows_of (found_of matches.now))) }
 {
     let workers = number_in(matches, "workers")?;
     if workers == 0 || workers > 4 {
@@ -118,7 +117,7 @@ fn flag_in(matches: &ArgMatches<'_>, name: &str) -> bool
 /// What bounds the lookup counts.
 fn counts_in(matches: &ArgMatches<'_>) -> Result<Counts, OptionsRefusal>
     ensures ok { IfOk result (AreCounts (rows_of (found_of matches.now))) }
-    ensures err { IfErr result (AreRefused (rows_of (found_of matches.now))) }
+    ensures err { IfErr result (IsValueRefused (codes "counts") (rows_of (found_of matches.now))) }
 {
     let counts = text_in(matches, "counts");
     if counts == "bounded" {
@@ -133,7 +132,7 @@ fn counts_in(matches: &ArgMatches<'_>) -> Result<Counts, OptionsRefusal>
 /// How far the table may grow.
 fn bounds_in(matches: &ArgMatches<'_>) -> Result<Bounds, OptionsRefusal>
     ensures ok { IfOk result (AreBounds (rows_of (found_of matches.now))) }
-    ensures err { IfErr result (AreRefused (rows_of (found_of matches.now))) }
+    ensures err { IfErr result (AreRefused (codes "pipe") (rows_of (found_of matches.now))) }
 {
     let counts = counts_in(matches)?;
     let nodes = number_in(matches, "nodes")?;
@@ -159,7 +158,7 @@ fn is_given(matches: &ArgMatches<'_>, name: &str) -> bool
 /// Whose attributes are reported.
 fn settings_in(matches: &ArgMatches<'_>) -> Result<Settings, OptionsRefusal>
     ensures ok { IfOk result (AreSettings (rows_of (found_of matches.now))) }
-    ensures err { IfErr result (AreRefused (rows_of (found_of matches.now))) }
+    ensures err { IfErr result (AreRefused (codes "pipe") (rows_of (found_of matches.now))) }
 {
     let attributes = text_in(matches, "attributes");
     if attributes == "fixed" {
@@ -181,7 +180,7 @@ fn settings_in(matches: &ArgMatches<'_>) -> Result<Settings, OptionsRefusal>
 /// The settings of a session.
 fn terms_in(matches: &ArgMatches<'_>) -> Result<Terms, OptionsRefusal>
     ensures ok { IfOk result (AreTerms (rows_of (found_of matches.now))) }
-    ensures err { IfErr result (AreRefused (rows_of (found_of matches.now))) }
+    ensures err { IfErr result (AreRefused (codes "pipe") (rows_of (found_of matches.now))) }
 {
     let settings = settings_in(matches)?;
     let bounds = bounds_in(matches)?;
@@ -191,7 +190,7 @@ fn terms_in(matches: &ArgMatches<'_>) -> Result<Terms, OptionsRefusal>
 /// What `serve` asks for.
 fn serve_asked<'a>(matches: &ArgMatches<'a>) -> Result<Options<'a>, OptionsRefusal>
     ensures ok { IfOk result (IsAskedBy (codes "serve") (rows_of (found_of matches.now))) }
-    ensures err { IfErr result (AreRefused (rows_of (found_of matches.now))) }
+    ensures err { IfErr result (AreRefused (codes "serve") (rows_of (found_of matches.now))) }
 {
     let terms = terms_in(matches)?;
     let workers = workers_in(matches)?;
@@ -207,7 +206,7 @@ fn serve_asked<'a>(matches: &ArgMatches<'a>) -> Result<Options<'a>, OptionsRefus
 /// What `pipe` asks for.
 fn pipe_asked<'a>(matches: &ArgMatches<'a>) -> Result<Options<'a>, OptionsRefusal>
     ensures ok { IfOk result (IsAskedBy (codes "pipe") (rows_of (found_of matches.now))) }
-    ensures err { IfErr result (AreRefused (rows_of (found_of matches.now))) }
+    ensures err { IfErr result (AreRefused (codes "pipe") (rows_of (found_of matches.now))) }
 {
     let terms = terms_in(matches)?;
     Ok(Options::Pipe {
@@ -219,7 +218,7 @@ fn pipe_asked<'a>(matches: &ArgMatches<'a>) -> Result<Options<'a>, OptionsRefusa
 /// What `device` asks for.
 fn device_asked<'a>(matches: &ArgMatches<'a>) -> Result<Options<'a>, OptionsRefusal>
     ensures ok { IfOk result (IsAskedBy (codes "device") (rows_of (found_of matches.now))) }
-    ensures err { IfErr result (AreRefused (rows_of (found_of matches.now))) }
+    ensures err { IfErr result (AreRefused (codes "device") (rows_of (found_of matches.now))) }
 {
     let terms = terms_in(matches)?;
     let workers = workers_in(matches)?;
@@ -234,7 +233,7 @@ fn device_asked<'a>(matches: &ArgMatches<'a>) -> Result<Options<'a>, OptionsRefu
 /// What `hex` asks for.
 fn hex_asked<'a>(matches: &ArgMatches<'a>) -> Result<Options<'a>, OptionsRefusal>
     ensures ok { IfOk result (λ options. (name : Text) → (name ≢ codes "serve") → (name ≢ codes "pipe") → (name ≢ codes "device") → IsAskedBy name (rows_of (found_of matches.now)) options) }
-    ensures err { IfErr result (λ refusal. (refusal ≡ Number) × AreRefused (rows_of (found_of matches.now)) refusal) }
+    ensures err { IfErr result (AreRefused (codes "hex") (rows_of (found_of matches.now))) }
 {
     let postings = number_in(matches, "postings")?;
     Ok(Options::Hex {

@@ -57,7 +57,8 @@ pub enum Step<'a> {
     Failed(u64),
 }
 
-fn put(rt: &HostRuntime, root: &str, place: &str, item: Item) -> io::Result<()> {
+/// Puts it at that place.
+pub fn put(rt: &HostRuntime, root: &str, place: &str, item: Item) -> io::Result<()> {
     match item {
         Item::Link(to) => symlink(rt, to, place),
         Item::File(text) => fs::write(rt, place, text),

@@ -2,7 +2,10 @@
 
 use crate::asking::{expect, expect_count};
 use crate::random::{Dice, ask_both, call};
-use crate::sample_trees::{new_folder, sample_folder};
+use crate::sample_trees::{new_folder, place_of, sample_folder};
+use crate::telling::{Item, put};
+use crate::watch::{Trick, Watch};
+use crate::watched::Watched;
 use backing::MemTree;
 use disk::Unknown;
 use disk_folder::Folder;
@@ -12,26 +15,42 @@ use std::fs;
 use std::hash::RandomState;
 use std::num::NonZeroUsize;
 use std::random::RandomSource;
+use std::rc::Rc;
 use std::sync::Wait;
 use std::test::Fail;
 
-type Worker<R> = Folder<Unknown<Linux<LibC, SharedFiles<OpenFd, R>>>>;
+type Worker<R> = Folder<Unknown<Linux<Watched<LibC>, SharedFiles<OpenFd, R>>>>;
 
-/// The folder at that path, twice.
+/// A folder twice, and what is seen of the calls of both.
+#[derive(Drop)]
+struct Two<R: Wait + Clone + Drop> {
+    first: Worker<R>,
+    second: Worker<R>,
+    watch: Rc<Watch>,
+}
+
+/// The folder at that path, which is watched so.
 fn open_two<R: Wait + RandomSource + Clone + Drop>(
     rt: &R,
     alloc: Global,
     root: &str,
-) -> Result<(Worker<R>, Worker<R>), Fail> {
+    watch: Watch,
+) -> Result<Two<R>, Fail> {
     let Some(room) = NonZeroUsize::new(8) else {
         return Err(Fail::from("no number"));
     };
+    let watch = Rc::new(alloc, watch)?;
+    let calls = Watched::new(LibC::new(alloc)?, watch.clone()?);
     let store = SharedFiles::new(rt.clone()?, alloc, room, RandomState::new(rt)?)?;
-    let linux = Linux::open(LibC::new(alloc)?, store, alloc, root)?;
+    let linux = Linux::open(calls, store, alloc, root)?;
     let shared = linux.share()?;
     let first = Folder::new(Unknown::new(linux), 64, RandomState::new(rt)?)?;
     let second = Folder::new(Unknown::new(shared), 64, RandomState::new(rt)?)?;
-    Ok((first, second))
+    Ok(Two {
+        first,
+        second,
+        watch,
+    })
 }
 
 /// Who asks.
@@ -79,34 +98,106 @@ const STEPS: &[(Who, &str, &str)] = &[
     (First, "stat a", "folder 0"),
 ];
 
-fn take_all<R: Wait + RandomSource + Clone + Drop>(
+fn ask<R: Wait + Clone + Drop>(
     alloc: Global,
-    first: &mut Worker<R>,
-    second: &mut Worker<R>,
+    two: &mut Two<R>,
+    who: Who,
+    words: &str,
+    wanted: &str,
 ) -> Result<(), Fail> {
-    for (who, words, wanted) in STEPS {
-        match *who {
-            First => expect(alloc, first, words, wanted)?,
-            Second => expect(alloc, second, words, wanted)?,
-        }
+    match who {
+        First => expect(alloc, &mut two.first, words, wanted),
+        Second => expect(alloc, &mut two.second, words, wanted),
     }
-    expect_count(first.failures(), 0)?;
-    expect_count(second.failures(), 0)
 }
 
 fn tell<R: Wait + RandomSource + Clone + Drop>(
     rt: &R,
     alloc: Global,
     root: &str,
+    watch: Watch,
 ) -> Result<(), Fail> {
-    let (mut first, mut second) = open_two(rt, alloc, root)?;
-    take_all(alloc, &mut first, &mut second)
+    let mut two = open_two(rt, alloc, root, watch)?;
+    for (who, words, wanted) in STEPS {
+        ask(alloc, &mut two, *who, words, wanted)?;
+    }
+    expect_count(two.first.failures(), 0)?;
+    expect_count(two.second.failures(), 0)
 }
 
 #[test]
 fn what_one_worker_changes_the_other_one_notices(rt: HostRuntime) -> Result<(), Fail> {
     let root = sample_folder(&rt, "workers")?;
-    tell(&rt, rt.alloc(), root.as_str())?;
+    let watch = Watch::new(&rt, root.as_str())?;
+    tell(&rt, rt.alloc(), root.as_str(), watch)?;
+    fs::remove_dir_all(&rt, root.as_str())?;
+    Ok(())
+}
+
+/// A link that was followed is not kept open as the file: the next call of either worker finds none.
+const FOLLOWED: &[(Who, &str, &str)] = &[
+    (First, "read a 0 9", "fault 5"),
+    (First, "read a 0 9", "fault 2"),
+    (Second, "read a 0 9", "fault 2"),
+    (Second, "write a 0 xyz", "fault 2"),
+    (First, "stat e", "file 0"),
+];
+
+fn tell_followed<R: Wait + RandomSource + Clone + Drop>(
+    rt: &R,
+    alloc: Global,
+    root: &str,
+    watch: Watch,
+) -> Result<(), Fail> {
+    let mut two = open_two(rt, alloc, root, watch)?;
+    two.watch.play(Trick::Replace);
+    for (who, words, wanted) in FOLLOWED {
+        ask(alloc, &mut two, *who, words, wanted)?;
+        two.watch.play(Trick::Nothing);
+    }
+    Ok(())
+}
+
+#[test]
+fn a_link_that_was_followed_is_not_kept_open(rt: HostRuntime) -> Result<(), Fail> {
+    let root = sample_folder(&rt, "followed")?;
+    let watch = Watch::new(&rt, root.as_str())?;
+    tell_followed(&rt, rt.alloc(), root.as_str(), watch)?;
+    fs::remove_dir_all(&rt, root.as_str())?;
+    Ok(())
+}
+
+/// Calls that look first find the file that others have put in the place of one that is kept open.
+const RENEWED: [(&str, &str); 4] = [
+    ("sync a", "done"),
+    ("chmod a 640", "done"),
+    ("utimes a 5.1 6.2", "done"),
+    ("chown a - -", "done"),
+];
+
+fn tell_renewed<R: Wait + RandomSource + Clone + Drop>(
+    rt: &R,
+    host: &HostRuntime,
+    root: &str,
+) -> Result<(), Fail> {
+    let alloc = host.alloc();
+    let mut two = open_two(rt, alloc, root, Watch::new(host, root)?)?;
+    let place = place_of(alloc, root, "a")?;
+    let next = place_of(alloc, root, "next")?;
+    for (words, wanted) in RENEWED {
+        ask(alloc, &mut two, First, "write a 0 old", "wrote 3")?;
+        put(host, root, next.as_str(), Item::File("new"))?;
+        put(host, root, place.as_str(), Item::Moved("next"))?;
+        ask(alloc, &mut two, Second, words, wanted)?;
+        ask(alloc, &mut two, First, "read a 0 9", "bytes 6e6577")?;
+    }
+    expect_count(two.second.failures(), 0)
+}
+
+#[test]
+fn a_file_that_others_renewed_is_set_and_synced(rt: HostRuntime) -> Result<(), Fail> {
+    let root = sample_folder(&rt, "renewed")?;
+    tell_renewed(&rt, &rt, root.as_str())?;
     fs::remove_dir_all(&rt, root.as_str())?;
     Ok(())
 }
@@ -114,17 +205,16 @@ fn what_one_worker_changes_the_other_one_notices(rt: HostRuntime) -> Result<(), 
 /// Makes random calls, each on one of both workers and on a tree, which answer alike.
 fn ask_either<R: Wait + RandomSource + Clone + Drop>(
     alloc: Global,
-    first: &mut Worker<R>,
-    second: &mut Worker<R>,
+    two: &mut Two<R>,
 ) -> Result<(), Fail> {
     let mut tree = MemTree::new(alloc);
     let mut dice = Dice::new(20_261_126);
     for _ in 0..3000 {
         let words = call(alloc, &mut dice)?;
         if dice.below(2) == 0 {
-            ask_both(alloc, &mut tree, first, words.as_str())?;
+            ask_both(alloc, &mut tree, &mut two.first, words.as_str())?;
         } else {
-            ask_both(alloc, &mut tree, second, words.as_str())?;
+            ask_both(alloc, &mut tree, &mut two.second, words.as_str())?;
         }
     }
     Ok(())
@@ -134,15 +224,17 @@ fn ask_either_at<R: Wait + RandomSource + Clone + Drop>(
     rt: &R,
     alloc: Global,
     root: &str,
+    watch: Watch,
 ) -> Result<(), Fail> {
-    let (mut first, mut second) = open_two(rt, alloc, root)?;
-    ask_either(alloc, &mut first, &mut second)
+    let mut two = open_two(rt, alloc, root, watch)?;
+    ask_either(alloc, &mut two)
 }
 
 #[test]
 fn both_workers_answer_alike(rt: HostRuntime) -> Result<(), Fail> {
     let root = new_folder(&rt, "either")?;
-    ask_either_at(&rt, rt.alloc(), root.as_str())?;
+    let watch = Watch::new(&rt, root.as_str())?;
+    ask_either_at(&rt, rt.alloc(), root.as_str(), watch)?;
     fs::remove_dir_all(&rt, root.as_str())?;
     Ok(())
 }

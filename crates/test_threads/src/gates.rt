@@ -1,7 +1,8 @@
 //! Directories whose calls pass a gate.
 
 use crate::overlap::{LOOKS, TWO};
-use crate::teller::{Client, check_over, client_of, holds_of};
+use crate::story::holds_of;
+use crate::teller::{check_over, client_of};
 use backing::{Answer, Call, Calls};
 use std::alloc::{AllocError, Global};
 use std::sync::Arc;
@@ -98,8 +99,9 @@ fn a_gate_holds_a_call_until_the_next(rt: HostRuntime) -> Result<(), Fail> {
     )?;
     let holds = holds_of(&rt, rt.alloc(), TWO.workers)?;
     let directories = behind_gate(rt.alloc(), holds, &gate)?;
-    let Client { asks, hears, heard } = client_of(&rt, rt.alloc(), &TWO)?;
-    check_over(&rt, rt.alloc(), &TWO, asks, hears, &heard, directories)?;
+    let client = client_of(&rt, rt.alloc(), &TWO)?;
+    let heard = Arc::try_clone(&client.heard)?;
+    check_over(&rt, rt.alloc(), &TWO, client, directories)?;
     // Two in the session, and two with which each directory is looked at afterwards.
     assert_eq!(rt; gate.count(), 6);
     assert_eq!(rt; gate.met.load(Ordering::SeqCst), 6);

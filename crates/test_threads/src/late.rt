@@ -3,7 +3,8 @@
 ghost use Rattle.std.specs.Prelude.{◌≡◌};
 
 use crate::client::{Fates, Hears};
-use crate::teller::{Client, Comes, Shows, Story, check_over, client_of, holds_of};
+use crate::story::{Comes, Shows, Story, holds_of};
+use crate::teller::{Client, check_over, client_of};
 use backing::{Answer, Call, Calls, Shared};
 use engine::{LinkOut, Sent, SessionEnd};
 use std::alloc::{AllocError, Global};
@@ -128,7 +129,12 @@ fn a_link_that_is_full_stops_no_work(rt: HostRuntime) -> Result<(), Fail> {
         calls: Arc::try_clone(&calls)?,
         were_made: Arc::try_clone(&were_made)?,
     };
-    check_over(&rt, rt.alloc(), &FOUR, asks, late, &heard, trees)?;
+    let client = Client {
+        asks,
+        hears: late,
+        heard,
+    };
+    check_over(&rt, rt.alloc(), &FOUR, client, trees)?;
     assert_eq!(rt; were_made.load(Ordering::SeqCst), 1);
     Ok(())
 }

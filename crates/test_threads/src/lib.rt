@@ -16,6 +16,8 @@ mod sleeping;
 #[cfg(test)]
 mod slow;
 #[cfg(test)]
+mod story;
+#[cfg(test)]
 mod teller;
 #[cfg(test)]
 mod turns;

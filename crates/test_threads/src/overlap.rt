@@ -1,7 +1,8 @@
 //! Two workers are in calls of the directory at the same time.
 
 use crate::client::Fates;
-use crate::teller::{Comes, Shows, Story, check_by, holds_of};
+use crate::story::{Comes, Shows, Story, holds_of};
+use crate::teller::check_by;
 use backing::{Answer, Call, Calls, Shared};
 use engine::SessionEnd;
 use std::alloc::{AllocError, Global};

@@ -1,7 +1,8 @@
 //! Sessions with 1, 2 and 4 workers, and with none and five.
 
 use crate::client::Fates;
-use crate::teller::{Comes, Shows, Story, check};
+use crate::story::{Comes, Shows, Story};
+use crate::teller::check;
 use engine::{Sent, SessionEnd};
 use std::test::Fail;
 use wire::Operation;

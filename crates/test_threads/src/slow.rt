@@ -3,7 +3,8 @@
 ghost use Rattle.std.specs.Prelude.{◌≡◌};
 
 use crate::client::{Fates, Hears};
-use crate::teller::{Client, Comes, Shows, Story, check_over, client_of, holds_of};
+use crate::story::{Comes, Shows, Story, holds_of};
+use crate::teller::{Client, check_over, client_of};
 use engine::{LinkOut, Sent, SessionEnd};
 use std::sync::Wait;
 use std::test::Fail;
@@ -36,6 +37,20 @@ impl<H: Wait + Drop> LinkOut for Slow<H> {
     }
 }
 
+/// The client of a story that takes replies slowly.
+fn slow_client<H: Wait + Clone + Drop>(
+    rt: &H,
+    alloc: Global,
+    story: &Story<'_>,
+) -> Result<Client<H, Slow<H>>, AllocError> {
+    let Client { asks, hears, heard } = client_of(rt, alloc, story)?;
+    Ok(Client {
+        asks,
+        hears: Slow { hears },
+        heard,
+    })
+}
+
 const MANY: Story = Story {
     says: "a hundred entries whose replies are taken slowly",
     workers: 4,
@@ -60,8 +75,13 @@ fn one_worker_and_a_hundred_at_once(rt: HostRuntime) -> Result<(), Fail> {
         ..MANY
     };
     let trees = holds_of(&rt, rt.alloc(), 1)?;
-    let Client { asks, hears, heard } = client_of(&rt, rt.alloc(), &one)?;
-    check_over(&rt, rt.alloc(), &one, asks, Slow { hears }, &heard, trees)
+    check_over(
+        &rt,
+        rt.alloc(),
+        &one,
+        slow_client(&rt, rt.alloc(), &one)?,
+        trees,
+    )
 }
 
 // If all threads waited for room in the reply queue, none would be left to offer replies to the client.
@@ -69,8 +89,8 @@ fn one_worker_and_a_hundred_at_once(rt: HostRuntime) -> Result<(), Fail> {
 fn more_replies_than_places(rt: HostRuntime) -> Result<(), Fail> {
     for _ in 0..5 {
         let trees = holds_of(&rt, rt.alloc(), MANY.workers)?;
-        let Client { asks, hears, heard } = client_of(&rt, rt.alloc(), &MANY)?;
-        check_over(&rt, rt.alloc(), &MANY, asks, Slow { hears }, &heard, trees)?;
+        let client = slow_client(&rt, rt.alloc(), &MANY)?;
+        check_over(&rt, rt.alloc(), &MANY, client, trees)?;
     }
     Ok(())
 }

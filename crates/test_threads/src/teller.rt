@@ -1,66 +1,20 @@
-//! Sessions on threads as data.
+//! Serves the stories, and compares what came with what they say.
 
 ghost use Rattle.std.specs.Prelude.{◌≡◌};
 
-use crate::client::{Asks, Fates, Heard, Hears, last_of};
-use backing::{Answer, Call, Calls, Child, MemTree, Shared};
-use engine::{LinkIn, LinkOut, Sent, SessionEnd, Settings};
+use crate::client::{Asks, Heard, Hears, last_of};
+use crate::story::{Comes, SETTINGS, Shows, Story, holds_of, path_of_file, pieces_of};
+use backing::{Answer, Call, Calls, Child};
+use engine::{LinkIn, LinkOut, Sent, SessionEnd};
 use engine_threads::{Account, Ended, Given, serve_threads};
-use paths::{Name, Path};
+use paths::Path;
 use std::alloc::{AllocError, Global};
-use std::mem;
 use std::random::RandomSource;
 use std::sync::{Arc, Mutex, Wait};
 use std::test::Fail;
 use std::thread::Threads;
 use table::{Limits, Seeds};
-use wire::{Operation, Request, encode_request};
-
-/// How the frames arrive.
-#[derive(Clone, Copy, PartialEq, Eq)]
-pub enum Comes {
-    /// All in one receive.
-    Together,
-    /// Each in a receive of its own.
-    Alone,
-}
-
-/// A session over a tree with the file `a` of three bytes.
-#[derive(Clone, Copy)]
-pub struct Story<'a> {
-    pub says: &'a str,
-    pub workers: usize,
-    pub comes: Comes,
-    /// What is asked after INIT, each request with its node.
-    pub asks: &'a [(u64, Operation<'a>)],
-    /// Bytes that come after all frames.
-    pub rest: &'a [u8],
-    pub fates: Fates,
-    pub end: SessionEnd,
-    /// How many replies are offered.
-    pub offers: u32,
-    /// If the last reply is only a header, the number of the request that it answers; otherwise 0.
-    pub last: u64,
-    /// How many jobs all workers took.
-    pub taken: u64,
-    /// How often a node is born. None if that depends on timing.
-    pub births: Option<u64>,
-    /// Entries given, entries given back and entries forgotten, if the session was served.
-    pub totals: Option<(u64, u64, u64)>,
-    /// What the directories show afterwards.
-    pub shows: Shows,
-}
-
-/// What a directory shows.
-#[derive(Clone, Copy, Debug, PartialEq, Eq)]
-pub enum Shows {
-    /// The file `a` alone, with its three bytes.
-    File,
-    /// Nothing.
-    Nothing,
-    /// Something else.
-    Other,
-}
+use wire::Operation;
 
 /// The result of a session.
 #[derive(Clone, Copy, Debug, PartialEq, Eq)]
@@ -91,90 +45,6 @@ pub struct Back {
     pub directories: usize,
     /// How many of the directories show what the story says.
     pub showing: usize,
-}
-
-pub const SETTINGS: Settings = Settings::Fixed { uid: 0, gid: 0 };
-
-const INIT: (u64, Operation<'static>) = (
-    0,
-    Operation::Init {
-        major: 7,
-        minor: 31,
-        max_readahead: 131072,
-        flags: 0,
-    },
-);
-
-fn put_request(
-    out: &mut Vec<u8>,
-    unique: u64,
-    node: u64,
-    operation: Operation<'_>,
-) -> Result<(), AllocError> {
-    let request = Request {
-        unique,
-        node,
-        operation,
-    };
-    encode_request(&request, out)?;
-    Ok(())
-}
-
-/// INIT and the requests after it, in pieces of one receive each, with these bytes after the last.
-pub fn pieces_of(
-    alloc: Global,
-    comes: Comes,
-    asks: &[(u64, Operation<'_>)],
-    rest: &[u8],
-) -> Result<Vec<Vec<u8>>, AllocError> {
-    let mut pieces = Vec::new(alloc);
-    let mut piece = Vec::new(alloc);
-    let (node, operation) = INIT;
-    put_request(&mut piece, 1, node, operation)?;
-    let mut unique = 1u64;
-    for (node, operation) in asks {
-        if comes == Comes::Alone {
-            pieces.push(mem::replace(&mut piece, Vec::new(alloc)))?;
-        }
-        unique = unique.saturating_add(1);
-        put_request(&mut piece, unique, *node, *operation)?;
-    }
-    piece.extend_from_slice(rest)?;
-    pieces.push(piece)?;
-    Ok(pieces)
-}
-
-/// The path of the file `a`.
-fn path_of_file(alloc: Global) -> Result<Path, AllocError> {
-    let mut names = Vec::new(alloc);
-    names.push(Name::copy_of(alloc, "a")?)?;
-    Path::from_names(names)
-}
-
-/// A tree with the file `a` of three bytes.
-pub fn tree_of(alloc: Global) -> Result<MemTree, AllocError> {
-    let mut tree = MemTree::new(alloc);
-    match tree.put_file(&path_of_file(alloc)?, b"abc") {
-        Ok(()) => Ok(tree),
-        Err(_) => Err(AllocError),
-    }
-}
-
-/// A handle to one tree for each worker.
-pub fn holds_of<H: Wait + Clone + Drop>(
-    rt: &H,
-    alloc: Global,
-    workers: usize,
-) -> Result<Vec<Shared<H>>, AllocError> {
-    let tree = Arc::new(alloc, Mutex::new(tree_of(alloc)?))?;
-    let mut holds = Vec::new(alloc);
-    for _ in 0..workers {
-        let Ok(own) = rt.clone() else {
-            return Err(AllocError);
-        };
-        holds.push(Shared::new(own, Arc::try_clone(&tree)?))?;
-    }
-    Ok(holds)
 }
 
 fn summed(counts: &[u64]) -> u64 {
@@ -323,10 +193,10 @@ fn came_of<H: Wait + Drop, O: LinkOut + Drop, C: Calls + Drop>(
     })
 }
 
-/// The client of a story.
-pub struct Client<H: Wait + Drop> {
+/// The client of a story, with its links.
+pub struct Client<H: Wait + Drop, O> {
     pub asks: Asks<H>,
-    pub hears: Hears<H>,
+    pub hears: O,
     pub heard: Arc<Mutex<Heard>>,
 }
 
@@ -334,7 +204,7 @@ pub fn client_of<H: Wait + Clone + Drop>(
     rt: &H,
     alloc: Global,
     story: &Story<'_>,
-) -> Result<Client<H>, AllocError> {
+) -> Result<Client<H, Hears<H>>, AllocError> {
     let heard = Arc::new(alloc, Mutex::new(Heard::new(alloc)))?;
     let Ok(own) = rt.clone() else {
         return Err(AllocError);
@@ -353,7 +223,7 @@ pub fn client_of<H: Wait + Clone + Drop>(
     Ok(Client { asks, hears, heard })
 }
 
-/// Serves a story with these trees over these links, and returns the result.
+/// Serves a story to this client with these trees, and returns the result.
 fn tell<
     H: Threads + Wait + RandomSource + Clone + Send + Sync + Drop + 'static,
     O: LinkOut + Send + Drop + 'static,
@@ -362,11 +232,10 @@ fn tell<
     rt: &H,
     alloc: Global,
     story: &Story<'_>,
-    asks: Asks<H>,
-    hears: O,
-    heard: &Mutex<Heard>,
+    client: Client<H, O>,
     trees: Vec<C>,
 ) -> Result<Came, AllocError> {
+    let Client { asks, hears, heard } = client;
     let Ok(seeds) = Seeds::new(rt) else {
         return Err(AllocError);
     };
@@ -376,7 +245,7 @@ fn tell<
         calls: trees,
     };
     let ended = serve_threads(rt, alloc, given, Limits::default(), seeds, SETTINGS);
-    came_of(rt, alloc, ended, heard, story)
+    came_of(rt, alloc, ended, &heard, story)
 }
 
 /// Serves a story with handles to one tree, and fails if the result differs.
@@ -394,11 +263,11 @@ pub fn check_by<
     H: Threads + Wait + RandomSource + Clone + Send + Sync + Drop + 'static,
     C: Calls + Send + Drop + 'static,
 >(rt: &H, alloc: Global, story: &Story<'_>, trees: Vec<C>) -> Result<(), Fail> {
-    let Client { asks, hears, heard } = client_of(rt, alloc, story)?;
-    check_over(rt, alloc, story, asks, hears, &heard, trees)
+    let client = client_of(rt, alloc, story)?;
+    check_over(rt, alloc, story, client, trees)
 }
 
-/// The same over these links.
+/// The same with this client.
 pub fn check_over<
     H: Threads + Wait + RandomSource + Clone + Send + Sync + Drop + 'static,
     O: LinkOut + Send + Drop + 'static,
@@ -407,12 +276,10 @@ pub fn check_over<
     rt: &H,
     alloc: Global,
     story: &Story<'_>,
-    asks: Asks<H>,
-    hears: O,
-    heard: &Mutex<Heard>,
+    client: Client<H, O>,
     trees: Vec<C>,
 ) -> Result<(), Fail> {
-    let came = tell(rt, alloc, story, asks, hears, heard, trees)?;
+    let came = tell(rt, alloc, story, client, trees)?;
     let (workers, kept) = match story.totals {
         Some((entries, backs, _)) => (story.workers, entries.saturating_sub(backs)),
         None => (0, 0),

@@ -7,7 +7,7 @@ ghost use Rattle.table_steps.specs.Kept.{world_of};
 ghost use Rattle.table_steps.specs.World.{opened_world};
 
 use crate::client::{Asks, Heard};
-use crate::teller::{Comes, SETTINGS, pieces_of, tree_of};
+use crate::story::{Comes, SETTINGS, pieces_of, tree_of};
 use backing::MemTree;
 use crossbeam_channel::bounded_with;
 use engine::{Served, SessionEnd};
@@ -93,19 +93,26 @@ fn lone_worker<H: Wait + Clone + Drop>(rt: &H, alloc: Global) -> Result<Worker, 
     Ok(worker)
 }
 
+/// A new table, its only share, and a history that was just opened.
+pub struct NewTable<T: Ledgers> {
+    pub opened: Opened<LogEntry<T>>,
+    pub table: Table<T>,
+    pub kept: ThreadShare<T>,
+}
+
 /// A shared table, with the logs of a worker and of a writer.
-pub fn shared_table_of<T: Ledgers, N: Opening>(
+pub struct Recorded<T: Ledgers, N: Opening> {
+    pub shared_table: SharedTable<T, N>,
+    pub worker: ThreadLog<LogEntry<T>, Runs<N>>,
+    pub writer: ThreadLog<LogEntry<T>, Runs<N>>,
+}
+
+/// The table is shared from now on.
+pub fn record<T: Ledgers, N: Opening>(
     alloc: Global,
     opened: Opened<LogEntry<T>>,
     table: Table<T>,
-) -> Result<
-    (
-        SharedTable<T, N>,
-        ThreadLog<LogEntry<T>, Runs<N>>,
-        ThreadLog<LogEntry<T>, Runs<N>>,
-    ),
-    AllocError,
->
+) -> Result<Recorded<T, N>, AllocError>
     requires history { opened.table.shared.table_id ≡ N.history }
     requires table { world_of table ≡ opened_world N.limits }
     requires threads { N.threads ≡ 2 }
@@ -113,7 +120,11 @@ pub fn shared_table_of<T: Ledgers, N: Opening>(
     let (shared_table, mut thread_logs) = SharedTable::<T, N>::new(alloc, opened, table, 2)?;
     let writer = thread_logs.pop().ok_or(AllocError)?;
     let worker = thread_logs.pop().ok_or(AllocError)?;
-    Ok((shared_table, worker, writer))
+    Ok(Recorded {
+        shared_table,
+        worker,
+        writer,
+    })
 }
 
 /// Handles both jobs.
@@ -136,18 +147,25 @@ fn work_both<H: Wait + Drop, T: Ledgers, N: Opening>(
 fn work<H: Wait + Drop, T: Ledgers, N: Opening>(
     rt: &H,
     alloc: Global,
-    opened: Opened<LogEntry<T>>,
-    table: Table<T>,
-    mut kept: ThreadShare<T>,
+    new: NewTable<T>,
     mut worker: Worker,
     tree: MemTree,
     dirs: &Dirs,
 ) -> Result<(Image, u64), AllocError>
-    requires history { opened.table.shared.table_id ≡ N.history }
-    requires table { world_of table ≡ opened_world N.limits }
+    requires history { new.opened.table.shared.table_id ≡ N.history }
+    requires table { world_of new.table ≡ opened_world N.limits }
     requires threads { N.threads ≡ 2 }
 {
-    let (shared_table, thread_log, _writer) = shared_table_of::<T, N>(alloc, opened, table)?;
+    let NewTable {
+        opened,
+        table,
+        mut kept,
+    } = new;
+    let Recorded {
+        shared_table,
+        worker: thread_log,
+        writer: _,
+    } = record::<T, N>(alloc, opened, table)?;
     let mut served = Served { calls: tree, dirs };
     work_both(
         rt,
@@ -179,7 +197,12 @@ fn work_anew<H: Wait + Drop, T: Ledgers>(
     shares.destroy_empty();
     let kept = ThreadShare { share };
     let opened = Opened::new(alloc)?;
-    work::<H, T, Brand>(rt, alloc, opened, table, kept, worker, tree, &dirs)
+    let new = NewTable {
+        opened,
+        table,
+        kept,
+    };
+    work::<H, T, Brand>(rt, alloc, new, worker, tree, &dirs)
 }
 
 /// The reply to LOOKUP is returned by the queue, so its entry is given back.

@@ -5,8 +5,8 @@ ghost use Rattle.table_steps.specs.Kept.{world_of};
 ghost use Rattle.table_steps.specs.World.{opened_world};
 
 use crate::client::{Asks, Fates, Heard, Hears};
-use crate::teller::{Comes, SETTINGS, holds_of, pieces_of};
-use crate::turns::{passes_of, shared_table_of};
+use crate::story::{Comes, SETTINGS, holds_of, pieces_of};
+use crate::turns::{NewTable, Recorded, passes_of, record};
 use backing::Shared;
 use crossbeam_channel::bounded_with;
 use engine::{Sent, Served};
@@ -38,12 +38,14 @@ const THREE: &[(u64, Operation<'static>)] = &[
 /// The reply to INIT and the first entry are taken. The link breaks at the second entry.
 const FATES: Fates = Fates::InTurn(&[Sent::Taken, Sent::Taken, Sent::Broken]);
 
-/// A worker with four jobs in its queue, and the writer of its replies.
-fn both<H: Wait + Drop>(
-    rt: &H,
-    alloc: Global,
-    mut asks: Asks<H>,
-) -> Result<(Worker, Writer), AllocError> {
+/// A worker, and the writer of its replies.
+pub struct Both {
+    pub worker: Worker,
+    pub writer: Writer,
+}
+
+/// A worker with four jobs in its queue, and its writer.
+fn both<H: Wait + Drop>(rt: &H, alloc: Global, mut asks: Asks<H>) -> Result<Both, AllocError> {
     let (jobs, work, mut read) = bounded_with::<Job, Hand<Job>, Fair, Global>(alloc, 16)?;
     let (replies, receiver, mut written) = bounded_with::<
         QueuedReply<JobReply>,
@@ -56,84 +58,84 @@ fn both<H: Wait + Drop>(
     let mut reader = Reader::new(alloc, jobs, read)?;
     let _end = reader.turn(rt, &mut asks);
     let writer = Writer::new(alloc, receiver, written)?;
-    Ok((worker, writer))
+    Ok(Both { worker, writer })
 }
 
-/// Handles all jobs, and then writes their replies together.
+/// Handles all jobs, and then writes their replies together. Returns the table.
 fn work_and_write<H: Wait + Drop, T: Ledgers, N: Opening>(
     rt: &H,
-    shared_table: &SharedTable<T, N>,
-    thread_log: ThreadLog<LogEntry<T>, Runs<N>>,
-    own: &mut ThreadLog<LogEntry<T>, Runs<N>>,
+    recorded: Recorded<T, N>,
     share: &mut Share<T>,
-    worker: &mut Worker,
-    writer: &mut Writer,
+    both: &mut Both,
     served: &mut Served<Shared<H>, &Dirs>,
     hears: &mut Hears<H>,
-) {
-    let mut table_handle = TableHandle::new(rt, shared_table, thread_log);
+) -> SharedTable<T, N> {
+    let Recorded {
+        shared_table,
+        worker: thread_log,
+        writer: mut own,
+    } = recorded;
+    let mut table_handle = TableHandle::new(rt, &shared_table, thread_log);
     for _ in 0..4 {
-        let _turn = worker.turn(&mut table_handle, share, served);
+        let _turn = both.worker.turn(&mut table_handle, share, served);
     }
-    let _count = writer.turns(rt, hears, shared_table, own, share, &mut served.dirs);
+    let Both { writer, worker: _ } = both;
+    let _count = writer.turns(rt, hears, &shared_table, &mut own, share, &mut served.dirs);
+    shared_table
 }
 
 /// The same on a shared table made of this one. Returns the table's final image.
 fn write<H: Wait + Drop, T: Ledgers, N: Opening>(
     rt: &H,
     alloc: Global,
-    opened: Opened<LogEntry<T>>,
-    table: Table<T>,
-    mut kept: ThreadShare<T>,
-    mut worker: Worker,
-    writer: &mut Writer,
+    new: NewTable<T>,
+    both: &mut Both,
     tree: Shared<H>,
-    dirs: &Dirs,
     hears: &mut Hears<H>,
 ) -> Result<Image, AllocError>
-    requires history { opened.table.shared.table_id ≡ N.history }
-    requires table { world_of table ≡ opened_world N.limits }
+    requires history { new.opened.table.shared.table_id ≡ N.history }
+    requires table { world_of new.table ≡ opened_world N.limits }
     requires threads { N.threads ≡ 2 }
 {
-    let (shared_table, thread_log, mut own) = shared_table_of::<T, N>(alloc, opened, table)?;
-    let mut served = Served { calls: tree, dirs };
-    work_and_write(
-        rt,
-        &shared_table,
-        thread_log,
-        &mut own,
-        &mut kept.share,
-        &mut worker,
-        writer,
-        &mut served,
-        hears,
-    );
+    let NewTable {
+        opened,
+        table,
+        mut kept,
+    } = new;
+    let dirs = Dirs::new(alloc)?;
+    let recorded = record::<T, N>(alloc, opened, table)?;
+    let mut served = Served {
+        calls: tree,
+        dirs: &dirs,
+    };
+    let shared_table = work_and_write(rt, recorded, &mut kept.share, both, &mut served, hears);
     shared_table.close().into_table().export()
 }
 
 /// The same with a new table.
-fn write_anew<H: Wait + Drop, T: Ledgers>(
+fn write_anew<H: Wait + RandomSource + Drop, T: Ledgers>(
     rt: &H,
     alloc: Global,
-    seeds: Seeds,
     blanks: Blanks,
-    worker: Worker,
-    writer: &mut Writer,
+    both: &mut Both,
     tree: Shared<H>,
     hears: &mut Hears<H>,
-) -> Result<Image, AllocError>
+) -> Result<Image, Fail>
     requires names { blanks ≡ T.names }
     requires shares { T.names.parts ≡ 1 }
 {
-    let dirs = Dirs::new(alloc)?;
+    let seeds = Seeds::new(rt)?;
     let (table, mut shares) = Table::<T>::open(alloc, Limits::default(), seeds, blanks, 1)?;
     let share = shares.pop().unwrap();
     shares.destroy_empty();
     let kept = ThreadShare { share };
     let opened = Opened::new(alloc)?;
-    write::<H, T, Brand>(
-        rt, alloc, opened, table, kept, worker, writer, tree, &dirs, hears,
-    )
+    let new = NewTable {
+        opened,
+        table,
+        kept,
+    };
+    Ok(write::<H, T, Brand>(rt, alloc, new, both, tree, hears)?)
 }
 
 /// Whether each reply of the batch counts as taken.
@@ -186,14 +188,16 @@ fn run<H: Wait + RandomSource + Clone + Drop>(
     asks: Asks<H>,
     hears: &mut Hears<H>,
 ) -> Result<(Image, Vec<Option<bool>>), Fail> {
-    let (worker, mut writer) = both(rt, alloc, asks)?;
-    let seeds = Seeds::new(rt)?;
+    let mut both = both(rt, alloc, asks)?;
     let Some(tree) = holds_of(rt, alloc, 1)?.pop() else {
         return Err(Fail::from("no tree"));
     };
     let blanks = Blanks::new(1);
-    let image = write_anew::<H, Brand>(rt, alloc, seeds, blanks, worker, &mut writer, tree, hears)?;
-    Ok((image, verdicts_of(alloc, writer.batch.settled.as_slice())?))
+    let image = write_anew::<H, Brand>(rt, alloc, blanks, &mut both, tree, hears)?;
+    Ok((
+        image,
+        verdicts_of(alloc, both.writer.batch.settled.as_slice())?,
+    ))
 }
 
 #[test]

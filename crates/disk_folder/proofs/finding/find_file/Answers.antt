@@ -11,10 +11,10 @@ pub returns-in-Some-clause-stand : goal.returns-in-Some-clause-stand
 returns-in-Some-clause-stand g c = λ all. stand_keeps_all (g.D.Disk.tree c.args.disk.now) (g.D.Disk.stands c.args.disk.now) c.args.cache.now c.recall_file.new.cache c.recall_file.ensures.keeps all
 
 pub returns-in-None-clause-ok : goal.returns-in-None-clause-ok
-returns-in-None-clause-ok g c = λ all. c.find_there.ensures.ok (stand_keeps_all (g.D.Disk.tree c.args.disk.now) (g.D.Disk.stands c.args.disk.now) c.args.cache.now c.recall_file.new.cache c.recall_file.ensures.keeps all)
+returns-in-None-clause-ok g c = λ all. c.find_there-in-None.ensures.ok (stand_keeps_all (g.D.Disk.tree c.args.disk.now) (g.D.Disk.stands c.args.disk.now) c.args.cache.now c.recall_file.new.cache c.recall_file.ensures.keeps all)
 
 pub returns-in-None-clause-stand : goal.returns-in-None-clause-stand
-returns-in-None-clause-stand g c = λ all. c.find_there.ensures.stand (stand_keeps_all (g.D.Disk.tree c.args.disk.now) (g.D.Disk.stands c.args.disk.now) c.args.cache.now c.recall_file.new.cache c.recall_file.ensures.keeps all)
+returns-in-None-clause-stand g c = λ all. c.find_there-in-None.ensures.stand (stand_keeps_all (g.D.Disk.tree c.args.disk.now) (g.D.Disk.stands c.args.disk.now) c.args.cache.now c.recall_file.new.cache c.recall_file.ensures.keeps all)
 
 pub returns-in-None-clause-err : goal.returns-in-None-clause-err
-returns-in-None-clause-err g c = λ all. c.find_there.ensures.err (stand_keeps_all (g.D.Disk.tree c.args.disk.now) (g.D.Disk.stands c.args.disk.now) c.args.cache.now c.recall_file.new.cache c.recall_file.ensures.keeps all)
+returns-in-None-clause-err g c = λ all. c.find_there-in-None.ensures.err (stand_keeps_all (g.D.Disk.tree c.args.disk.now) (g.D.Disk.stands c.args.disk.now) c.args.cache.now c.recall_file.new.cache c.recall_file.ensures.keeps all)

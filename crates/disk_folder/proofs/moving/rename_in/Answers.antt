@@ -1,5 +1,5 @@
 use Rattle.disk_folder.proofs.StandLemmas.{folder_stands}
-use Rattle.disk_folder.proofs.MoveEnds.{relocated_follows, follows_stand, moved_ends, not_moved_ends, not_moved_stand}
+use Rattle.disk_folder.proofs.MoveEnds.{follows_stand, moved_ends, not_moved_ends, not_moved_stand}
 use Rattle.disk_folder.proofs.moving.rename_in.Goals as goal
 
 pub returns-in-Ok-clause-ends : goal.returns-in-Ok-clause-ends
@@ -16,7 +16,7 @@ returns-in-Ok-clause-stand g c = λ up up' it that apart.
     let olds = g.D.Disk.stands c.args.disk.now in
     let there = folder_stands at olds c.args.cache.now c.args.source.now.folder up c.open.result.now it c.open.ensures in
     let there_too = folder_stands at olds c.args.cache.now c.args.target.now.folder up' c.open-2.result.now that c.open-2.ensures in
-    follows_stand at _ olds (g.D.Disk.stands c.rename.new.self) c.args.cache.now _ _ _ (relocated_follows c.args.cache.now _ _ _ (c.relocate.ensures up up' it.held_at that.held_at apart)) apart (c.in-Ok.ensures up up' there there_too apart) it.all
+    follows_stand at _ olds (g.D.Disk.stands c.rename.new.self) c.args.cache.now _ _ _ (c.follow.ensures up up' it.held_at that.held_at apart) apart (c.in-Ok.ensures up up' there there_too apart) it.all
 
 pub returns-in-Err-clause-ends : goal.returns-in-Err-clause-ends
 returns-in-Err-clause-ends g c = λ up up' it that apart some.

@@ -6,7 +6,7 @@ use Rattle.engine_queues.specs.declared.passes.Passes.{Passes}
 use Rattle.engine_turns.specs.declared.replies.JobReply.{JobReply}
 use Rattle.engine_threads.specs.Worked.{IsSenderAt, IsTakerAt}
 use Rattle.engine_threads.proofs.Lists.{all_so}
-use Rattle.engine_threads.proofs.finishing.gather_all.Goals as goal
+use Rattle.engine_threads.proofs.traffic.gather_all.Goals as goal
 
 pub gather-requires-clause-seats : goal.gather-requires-clause-seats
 gather-requires-clause-seats g c =
