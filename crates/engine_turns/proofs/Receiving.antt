@@ -1,8 +1,8 @@
 -- What a receive brought, and what is kept from it.
-use Rattle.std.proofs.Common.{◌≡◌, ℕ, ◌+◌, ◌↔◌, Bool, List, [], ◌++◌, length, take, drop, Option, Some, None, IfSome, IfNone, Result, Ok, Err, IfOk, inl, inr, refl, sym, ap, ◌∙◌, subst}
+use Rattle.std.proofs.Common.{◌≡◌, ℕ, ◌+◌, ◌↔◌, Bool, List, [], ◌++◌, take, drop, Option, Some, None, IfSome, IfNone, Result, Ok, Err, IfOk, inl, inr, refl, sym, ap, ◌∙◌, subst}
 use Rattle.std.proofs.Math.Logic.{∥∥₁_map}
 use Rattle.std.proofs.Math.Seq.{take-add}
-use Rattle.engine.specs.Links.{Heard, Piece, heard}
+use Rattle.engine.specs.Links.{Heard, Piece}
 use Rattle.engine.specs.declared.ends.SessionEnd.{SessionEnd}
 use Rattle.wire.specs.Stream.{BeginsBadly, Cutting, HandsOut, IsPartial, StoppedBy}
 use Rattle.wire.specs.declared.cutter.CutFault.{CutFault}

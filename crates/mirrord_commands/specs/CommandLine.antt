@@ -190,7 +190,7 @@ IsValueRefused id rows refusals.Workers = (id ≡ codes "workers") × (n : ℕ) 
 
 -- the subcommand with that name. Clap takes no name but those of the four, so any other may stand for `hex`
 abbrev pub subcommand_named : Text → Shape
-subcommand_named name = unwrap_or (find (λ s. bytes_eq s.name name) mirrord_app.subs) hex_app.top
+subcommand_named name = unwrap_or (find (λ s. bytes_eq name s.name) mirrord_app.subs) hex_app.top
 
 -- whether the subcommand with that name has that option
 abbrev pub has_option : (name id : Text) → Bool

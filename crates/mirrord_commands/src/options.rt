@@ -132,6 +132,7 @@ fn counts_in(matches: &ArgMatches<'_>) -> Result<Counts, OptionsRefusal>
 /// How far the table may grow.
 fn bounds_in(matches: &ArgMatches<'_>) -> Result<Bounds, OptionsRefusal>
     ensures ok { IfOk result (AreBounds (rows_of (found_of matches.now))) }
+    // Each subcommand that serves a folder has these options, and `pipe` has no number of workers besides.
     ensures err { IfErr result (AreRefused (codes "pipe") (rows_of (found_of matches.now))) }
 {
     let counts = counts_in(matches)?;
@@ -158,6 +159,7 @@ fn is_given(matches: &ArgMatches<'_>, name: &str) -> bool
 /// Whose attributes are reported.
 fn settings_in(matches: &ArgMatches<'_>) -> Result<Settings, OptionsRefusal>
     ensures ok { IfOk result (AreSettings (rows_of (found_of matches.now))) }
+    // Each subcommand that serves a folder has these options, and `pipe` has no number of workers besides.
     ensures err { IfErr result (AreRefused (codes "pipe") (rows_of (found_of matches.now))) }
 {
     let attributes = text_in(matches, "attributes");
@@ -180,6 +182,7 @@ fn settings_in(matches: &ArgMatches<'_>) -> Result<Settings, OptionsRefusal>
 /// The settings of a session.
 fn terms_in(matches: &ArgMatches<'_>) -> Result<Terms, OptionsRefusal>
     ensures ok { IfOk result (AreTerms (rows_of (found_of matches.now))) }
+    // Each subcommand that serves a folder has these options, and `pipe` has no number of workers besides.
     ensures err { IfErr result (AreRefused (codes "pipe") (rows_of (found_of matches.now))) }
 {
     let settings = settings_in(matches)?;

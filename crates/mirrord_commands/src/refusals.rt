@@ -3,7 +3,8 @@
 use std::fmt;
 use std::fmt::Display;
 
-/// Why options are refused. Only `Number` concerns `hex`.
+/// Why options are refused. Each comes of an option that the subcommand has: so `hex` is refused only as `Number`, and
+/// `pipe` never as `Workers`.
 #[derive(Clone, Copy, Debug, PartialEq, Eq)]
 pub enum OptionsRefusal {
     /// `--attributes` is neither `fixed` nor `host`.

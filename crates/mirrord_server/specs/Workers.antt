@@ -1,5 +1,5 @@
 -- Serving a folder of the system with several threads.
-use Rattle.std.specs.Prelude.{ℕ, ◌<◌, ◌≡◌, ◌⊎◌, List, [], replicate, Some, None, Result, Ok, Err}
+use Rattle.std.specs.Prelude.{ℕ, ◌<◌, ◌≡◌, ◌≢◌, ◌⊎◌, List, [], replicate, Some, None, Result, Ok, Err}
 use Rattle.disk_folder.specs.Explained.{Tells}
 use Rattle.table_shared.specs.Histories.{Made}
 use Rattle.engine.specs.declared.ends.SessionEnd.{SessionEnd}
@@ -15,6 +15,7 @@ use Rattle.engine_threads.specs.declared.ended.Account.{Account}
 use Rattle.terms.specs.Limits.{limits_of}
 use Rattle.mirrord_sessions.specs.Folders.{in_socket}
 use Rattle.mirrord_sessions.specs.declared.folder.Unserved.{Unserved}
+use Rattle.mirrord_sessions.specs.declared.folder.Unserved.TheVariants.{NoSocket}
 use Rattle.terms.specs.declared.terms.Terms.{Terms}
 
 -- Each of these folders is served by one thread: the jobs are what one link receives, the replies are offered to the other link, one
@@ -29,7 +30,7 @@ pub record AreUnserved {I O : Type 0} (workers : ℕ) (given : Ground I O ℕ) (
   pub why : (over ≡ end.Memory) ⊎ ((over ≡ end.NoWorkers) × ((workers ≡ 0) ⊎ (4 < workers)))
   pub back_is : back ≡ given
 
--- that many folders, on which no call was made, are served over these links, or nothing is done
+-- that many folders, of which no call has failed, are served over these links, or nothing is done
 abbrev pub ServesLinks : {I O : Type 0} → Behaviours I O ℕ → Terms → (workers : ℕ) → I → O → SessionEnd → (back : Ground I O ℕ) → Type 0
 ServesLinks by terms workers input output over back =
     AreServed by terms (served_with input output (replicate workers 0)) over back ⊎ AreUnserved workers (served_with input output (replicate workers 0)) over back
@@ -52,4 +53,4 @@ abbrev pub ServesDeviceBy : {R W : Type 0} → (R → Got → R → Type 0) → 
 ServesDeviceBy {R} {W} gives takes terms workers requests replies (Ok over) =
     (none : NoDevice) × (back : Ground (OnDevice R NoDevice) (OnDevice NoDevice W) ℕ)
     × ServesLinks (behaviours Tells (device.Receives gives) (device.Sends takes)) terms workers (device.unused requests none) (device.unused none replies) over back
-ServesDeviceBy gives takes terms workers requests replies (Err why) = Unit {0}
+ServesDeviceBy gives takes terms workers requests replies (Err why) = why ≢ NoSocket

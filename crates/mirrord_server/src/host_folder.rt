@@ -1,6 +1,7 @@
 //! The folder of one worker.
 
-ghost use Rattle.std.specs.Prelude.{◌≡◌, IfOk};
+ghost use Rattle.std.specs.Prelude.{◌≡◌, ◌≢◌, IfErr, IfOk};
+ghost use Rattle.mirrord_sessions.specs.declared.folder.Unserved.TheVariants.{NoSocket};
 
 use backing::{Answer, Call, Calls};
 use disk::Unknown;
@@ -62,7 +63,9 @@ fn folders_kept(workers: u8) -> usize {
 pub(crate) fn open_first<H: Wait + RandomSource + AllocGlobal + Clone + Drop>(
     rt: &H,
     root: &str,
-) -> Result<HostDisk<H>, Unserved> {
+) -> Result<HostDisk<H>, Unserved>
+    ensures { IfErr result (λ why. why ≢ NoSocket) }
+{
     let seed = new_seed(rt)?;
     let alloc = rt.alloc();
     let Ok(own) = rt.clone() else {
@@ -86,7 +89,8 @@ pub(crate) fn open_next<H: Wait + RandomSource + Clone + Drop>(
     first: &HostDisk<H>,
     workers: u8,
 ) -> Result<HostFolder<H>, Unserved>
-    ensures { IfOk result (λ folder. folder ≡ 0) }
+    ensures unused { IfOk result (λ folder. folder ≡ 0) }
+    ensures why { IfErr result (λ why. why ≢ NoSocket) }
 {
     let seed = new_seed(rt)?;
     let shared = match first.share() {

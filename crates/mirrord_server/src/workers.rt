@@ -1,8 +1,9 @@
 //! Serving a folder of the system with several threads.
 
-ghost use Rattle.std.specs.Prelude.{◌≡◌, IfOk, replicate, vec_len};
+ghost use Rattle.std.specs.Prelude.{◌≡◌, ◌≢◌, IfErr, IfOk, replicate, vec_len};
 ghost use Rattle.disk_folder.specs.Explained.{Tells};
 ghost use Rattle.engine_threads.specs.Served.{behaviours, served_with};
+ghost use Rattle.mirrord_sessions.specs.declared.folder.Unserved.TheVariants.{NoSocket};
 ghost use Rattle.mirrord_server.specs.Workers.{ServesLinks};
 
 use crate::host_folder::{HostFolder, open_first, open_next};
@@ -22,6 +23,7 @@ pub(crate) fn open_folders<H: Wait + RandomSource + AllocGlobal + Clone + Drop>(
 ) -> Result<Vec<HostFolder<H>>, Unserved>
     ensures unused { IfOk result (λ folders. folders.items ≡ replicate workers 0) }
     ensures len { IfOk result (λ folders. vec_len folders ≡ workers) }
+    ensures why { IfErr result (λ why. why ≢ NoSocket) }
 {
     let Ok(mut folders) = Vec::with_capacity(rt.alloc(), usize::from(workers)) else {
         return Err(Unserved::Memory);

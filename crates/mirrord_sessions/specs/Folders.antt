@@ -51,7 +51,7 @@ pub record IsFolderServed {D : Type 0} (disk : Claims D) (terms : Terms) (first 
   pub serves : ServesStream disk terms first left (unused input output) over last
   pub output_is : output' ≡ last.output
 
--- A folder of the disk on which no call was made is served so.
+-- A folder of the disk of which no call has failed is served so.
 pub record IsNewServed {D : Type 0} (disk : Claims D) (terms : Terms) (input output : Option (List ℕ)) (over : SessionEnd) (output' : Option (List ℕ)) : Type 0 where
   pub first : D × ℕ
   pub new : first.1 ≡ 0
@@ -73,7 +73,7 @@ abbrev pub ServesSocket : {D : Type 0} → Claims D → Terms → Result Session
 ServesSocket disk terms (Ok over) = IsNewServed disk terms in_socket in_socket over in_socket
 ServesSocket disk terms (Err why) = Unit {0}
 
--- A folder on which no call was made is served over the kernel's device, from which nothing was read before.
+-- A folder of which no call has failed is served over the kernel's device, from which nothing was read before.
 pub record IsDeviceServed {D R W : Type 0} (disk : Claims D) (gives : R → Got → R → Type 0) (takes : W → List ℕ → Result ℕ DeviceFault → W → Type 0) (terms : Terms) (requests : R) (replies : W) (over : SessionEnd) : Type 0 where
   pub first : D × ℕ
   pub new : first.1 ≡ 0

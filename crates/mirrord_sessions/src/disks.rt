@@ -2,7 +2,7 @@
 
 ghost use Rattle.std.specs.Prelude.{◌≡◌, ◌≢◌, IfErr, IfOk};
 ghost use Rattle.disk.specs.Errors.{errno_of};
-ghost use Rattle.mirrord_sessions.specs.Starts.{IsUnopenedBy};
+ghost use Rattle.mirrord_sessions.specs.Starts.{IsMemoryOr, IsUnopenedBy, IsUnstartedBy};
 ghost use Rattle.mirrord_sessions.specs.declared.folder.Unserved.TheVariants.{NoSocket};
 
 use crate::folder::Unserved;
@@ -56,12 +56,25 @@ impl Disks for LinuxDisks {
 
 /// Why a folder of Linux is not served.
 pub fn not_started(error: StartError) -> Unserved
-    ensures { result ≢ NoSocket }
+    ensures by { IsUnstartedBy error result }
+    ensures why { result ≢ NoSocket }
 {
     match error {
         StartError::NoMemory => Unserved::Memory,
         StartError::NoFolder(error) => not_opened(error),
-        StartError::NoDescriptors(_) | StartError::FollowsLinks => Unserved::NoDescriptors,
+        StartError::NoDescriptors(error) => memory_or(error, Unserved::NoDescriptors),
+        StartError::FollowsLinks => Unserved::NoDescriptors,
+    }
+}
+
+/// Want of memory, or else that other reason.
+fn memory_or(error: DiskError, other: Unserved) -> Unserved
+    ensures { IsMemoryOr (errno_of error) other result }
+{
+    if error.errno() == ENOMEM {
+        Unserved::Memory
+    } else {
+        other
     }
 }
 
@@ -70,9 +83,5 @@ pub fn not_opened(error: DiskError) -> Unserved
     ensures by { IsUnopenedBy (errno_of error) result }
     ensures why { result ≢ NoSocket }
 {
-    if error.errno() == ENOMEM {
-        Unserved::Memory
-    } else {
-        Unserved::NoFolder
-    }
+    memory_or(error, Unserved::NoFolder)
 }

@@ -1,12 +1,6 @@
-use Rattle.std.proofs.Common.{rules}
+use Rattle.std.proofs.Common.{rules, sym, ◌∙◌}
 use Rattle.mirrord_commands.proofs.Refusing.{hex_refuses}
 use Rattle.mirrord_commands.proofs.options.asked_by.Goals as goal
 
 pub returns : goal.returns
-returns c =
-    let a = c.or_refused-2.ensures in
-    let b = c.hex_asked.ensures in
-    let d = c.if-eq.false in
-    let e = c.eq.ensures in
-    let f = c.if-eq.ensures in
-    ?
+returns c = search (rules, hex_refuses c.args.name.now (sym c.eq.ensures ∙ c.if-eq.false) (sym c.eq-2.ensures ∙ c.if-eq-2.false) (sym c.eq-3.ensures ∙ c.if-eq-3.false))

@@ -1,4 +1,4 @@
-use Rattle.std.proofs.Common.{◌≡◌, ◌+◌, Option, Some, sym, ap, ◌∙◌, subst, arith}
+use Rattle.std.proofs.Common.{Option, Some, sym, ap, ◌∙◌, subst, arith}
 use Rattle.engine.specs.declared.ends.SessionEnd.{SessionEnd}
 use Rattle.engine_turns.specs.Shown.{reading}
 use Rattle.engine_turns.specs.Reads.{HasRead}
