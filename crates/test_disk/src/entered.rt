@@ -1,4 +1,5 @@
-//! Folders that may be entered and not read. Whoever runs the tests, those whose names end in `.shut` are such.
+//! Folders that may be entered and not read. Whoever runs the tests, those whose names end in `.shut` are such, and those with
+//! `.later` where they are opened first.
 
 use crate::asking::Asked;
 use crate::telling::{Item, Step, fail, new_top, take_all};
@@ -89,6 +90,25 @@ fn one_stands_in_another(rt: HostRuntime) -> Result<(), Fail> {
         Step::Ask("inspect 2", "Absent"),
     ];
     tell_shut(rt, "nested", STEPS)
+}
+
+/// One whose rights were set meanwhile is listed, brought to the disk and given times. A link in its place is not followed.
+#[test]
+fn one_that_may_be_read_by_now_is_read(rt: HostRuntime) -> Result<(), Fail> {
+    const STEPS: &[Step] = &[
+        Step::Put("a.later", Item::Folder(0o711)),
+        Step::Put("a.later/f", Item::File("text")),
+        Step::Ask("dir 0 a.later", "open 1"),
+        Step::Ask("list 1", "names f"),
+        Step::Ask("sync 1", "done"),
+        Step::Ask("times 1 1.0 1.0", "done"),
+        Step::Ask("rename 0 a.later 0 away", "done"),
+        Step::Put("a.later", Item::Link("OUT")),
+        Step::Ask("list 1", "failed 40"),
+        Step::Ask("sync 1", "failed 40"),
+        Step::Ask("times 1 1.0 1.0", "failed 40"),
+    ];
+    tell_shut(rt, "later", STEPS)
 }
 
 /// A link that is put in the place of the folder, or in it, is not followed: not even by the calls that follow none at the last name.

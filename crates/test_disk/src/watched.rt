@@ -15,9 +15,15 @@ const DENIED: i32 = 13;
 /// How the name of a folder ends that may not be read, whoever asks.
 const SHUT: &[u8] = b".shut";
 
+/// The same, where a slash is behind the name.
+const SHUT_FOLDER: &[u8] = b".shut/";
+
+/// How the name of a folder ends that may not be read where it is opened first, but later.
+const LATER: &[u8] = b".later";
+
 /// Whether the folder at the end of that may not be read.
 fn is_shut(path: &[u8]) -> bool {
-    path.ends_with(SHUT)
+    path.ends_with(SHUT) || path.ends_with(SHUT_FOLDER) || path.ends_with(LATER)
 }
 
 /// What is counted, and what is to come.

@@ -6,6 +6,7 @@ use crate::client::{Fates, Hears};
 use crate::story::{Comes, Shows, Story, holds_of};
 use crate::teller::{Client, check_over, client_of};
 use engine::{LinkOut, Sent, SessionEnd};
+use std::alloc::{AllocError, Global};
 use std::sync::Wait;
 use std::test::Fail;
 use std::thread;
