@@ -194,7 +194,8 @@ fn came_of<H: Wait + Drop, O: LinkOut + Drop, C: Calls + Drop>(
 }
 
 /// The client of a story, with its links.
-pub struct Client<H: Wait + Drop, O> {
+#[derive(Drop)]
+pub struct Client<H: Wait + Drop, O: Drop> {
     pub asks: Asks<H>,
     pub hears: O,
     pub heard: Arc<Mutex<Heard>>,

@@ -39,7 +39,8 @@ const THREE: &[(u64, Operation<'static>)] = &[
 const FATES: Fates = Fates::InTurn(&[Sent::Taken, Sent::Taken, Sent::Broken]);
 
 /// A worker, and the writer of its replies.
-pub struct Both {
+#[derive(Drop)]
+struct Both {
     pub worker: Worker,
     pub writer: Writer,
 }
