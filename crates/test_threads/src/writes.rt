@@ -40,13 +40,17 @@ const FATES: Fates = Fates::InTurn(&[Sent::Taken, Sent::Taken, Sent::Broken]);
 
 /// A worker, and the writer of its replies.
 #[derive(Drop)]
-struct Both {
+struct WorkerAndWriter {
     pub worker: Worker,
     pub writer: Writer,
 }
 
 /// A worker with four jobs in its queue, and its writer.
-fn both<H: Wait + Drop>(rt: &H, alloc: Global, mut asks: Asks<H>) -> Result<Both, AllocError> {
+fn both<H: Wait + Drop>(
+    rt: &H,
+    alloc: Global,
+    mut asks: Asks<H>,
+) -> Result<WorkerAndWriter, AllocError> {
     let (jobs, work, mut read) = bounded_with::<Job, Hand<Job>, Fair, Global>(alloc, 16)?;
     let (replies, receiver, mut written) = bounded_with::<
         QueuedReply<JobReply>,
@@ -59,7 +63,7 @@ fn both<H: Wait + Drop>(rt: &H, alloc: Global, mut asks: Asks<H>) -> Result<Both
     let mut reader = Reader::new(alloc, jobs, read)?;
     let _end = reader.turn(rt, &mut asks);
     let writer = Writer::new(alloc, receiver, written)?;
-    Ok(Both { worker, writer })
+    Ok(WorkerAndWriter { worker, writer })
 }
 
 /// Handles all jobs, and then writes their replies together. Returns the table.
@@ -67,7 +71,7 @@ fn work_and_write<H: Wait + Drop, T: Ledgers, N: Opening>(
     rt: &H,
     recorded: Recorded<T, N>,
     share: &mut Share<T>,
-    both: &mut Both,
+    both: &mut WorkerAndWriter,
     served: &mut Served<Shared<H>, &Dirs>,
     hears: &mut Hears<H>,
 ) -> SharedTable<T, N> {
@@ -80,7 +84,7 @@ fn work_and_write<H: Wait + Drop, T: Ledgers, N: Opening>(
     for _ in 0..4 {
         let _turn = both.worker.turn(&mut table_handle, share, served);
     }
-    let Both { writer, worker: _ } = both;
+    let WorkerAndWriter { writer, worker: _ } = both;
     let _count = writer.turns(rt, hears, &shared_table, &mut own, share, &mut served.dirs);
     shared_table
 }
@@ -90,7 +94,7 @@ fn write<H: Wait + Drop, T: Ledgers, N: Opening>(
     rt: &H,
     alloc: Global,
     new: NewTable<T>,
-    both: &mut Both,
+    both: &mut WorkerAndWriter,
     tree: Shared<H>,
     hears: &mut Hears<H>,
 ) -> Result<Image, AllocError>
@@ -118,7 +122,7 @@ fn write_anew<H: Wait + RandomSource + Drop, T: Ledgers>(
     rt: &H,
     alloc: Global,
     blanks: Blanks,
-    both: &mut Both,
+    both: &mut WorkerAndWriter,
     tree: Shared<H>,
     hears: &mut Hears<H>,
 ) -> Result<Image, Fail>
