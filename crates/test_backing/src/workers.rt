@@ -111,6 +111,14 @@ fn ask<R: Wait + Clone + Drop>(
     }
 }
 
+fn take_all<R: Wait + Clone + Drop>(alloc: Global, two: &mut Two<R>) -> Result<(), Fail> {
+    for (who, words, wanted) in STEPS {
+        ask(alloc, two, *who, words, wanted)?;
+    }
+    expect_count(two.first.failures(), 0)?;
+    expect_count(two.second.failures(), 0)
+}
+
 fn tell<R: Wait + RandomSource + Clone + Drop>(
     rt: &R,
     alloc: Global,
@@ -118,11 +126,7 @@ fn tell<R: Wait + RandomSource + Clone + Drop>(
     watch: Watch,
 ) -> Result<(), Fail> {
     let mut two = open_two(rt, alloc, root, watch)?;
-    for (who, words, wanted) in STEPS {
-        ask(alloc, &mut two, *who, words, wanted)?;
-    }
-    expect_count(two.first.failures(), 0)?;
-    expect_count(two.second.failures(), 0)
+    take_all(alloc, &mut two)
 }
 
 #[test]
@@ -143,6 +147,15 @@ const FOLLOWED: &[(Who, &str, &str)] = &[
     (First, "stat e", "file 0"),
 ];
 
+fn follow<R: Wait + Clone + Drop>(alloc: Global, two: &mut Two<R>) -> Result<(), Fail> {
+    two.watch.play(Trick::Replace);
+    for (who, words, wanted) in FOLLOWED {
+        ask(alloc, two, *who, words, wanted)?;
+        two.watch.play(Trick::Nothing);
+    }
+    Ok(())
+}
+
 fn tell_followed<R: Wait + RandomSource + Clone + Drop>(
     rt: &R,
     alloc: Global,
@@ -150,12 +163,7 @@ fn tell_followed<R: Wait + RandomSource + Clone + Drop>(
     watch: Watch,
 ) -> Result<(), Fail> {
     let mut two = open_two(rt, alloc, root, watch)?;
-    two.watch.play(Trick::Replace);
-    for (who, words, wanted) in FOLLOWED {
-        ask(alloc, &mut two, *who, words, wanted)?;
-        two.watch.play(Trick::Nothing);
-    }
-    Ok(())
+    follow(alloc, &mut two)
 }
 
 #[test]
@@ -175,29 +183,54 @@ const RENEWED: [(&str, &str); 4] = [
     ("chown a - -", "done"),
 ];
 
+/// Others put another file in the place of `a`.
+fn renew(host: &HostRuntime, root: &str) -> Result<(), Fail> {
+    let next = place_of(host.alloc(), root, "next")?;
+    put(host, root, next.as_str(), Item::File("new"))?;
+    let place = place_of(host.alloc(), root, "a")?;
+    put(host, root, place.as_str(), Item::Moved("next"))?;
+    Ok(())
+}
+
+fn ask_renewed<R: Wait + Clone + Drop>(
+    host: &HostRuntime,
+    root: &str,
+    two: &mut Two<R>,
+    words: &str,
+    wanted: &str,
+) -> Result<(), Fail> {
+    ask(host.alloc(), two, First, "write a 0 old", "wrote 3")?;
+    renew(host, root)?;
+    ask(host.alloc(), two, Second, words, wanted)?;
+    ask(host.alloc(), two, First, "read a 0 9", "bytes 6e6577")
+}
+
+fn ask_each_renewed<R: Wait + Clone + Drop>(
+    host: &HostRuntime,
+    root: &str,
+    two: &mut Two<R>,
+) -> Result<(), Fail> {
+    for (words, wanted) in RENEWED {
+        ask_renewed(host, root, two, words, wanted)?;
+    }
+    expect_count(two.second.failures(), 0)
+}
+
 fn tell_renewed<R: Wait + RandomSource + Clone + Drop>(
     rt: &R,
     host: &HostRuntime,
     root: &str,
+    watch: Watch,
 ) -> Result<(), Fail> {
-    let alloc = host.alloc();
-    let mut two = open_two(rt, alloc, root, Watch::new(host, root)?)?;
-    let place = place_of(alloc, root, "a")?;
-    let next = place_of(alloc, root, "next")?;
-    for (words, wanted) in RENEWED {
-        ask(alloc, &mut two, First, "write a 0 old", "wrote 3")?;
-        put(host, root, next.as_str(), Item::File("new"))?;
-        put(host, root, place.as_str(), Item::Moved("next"))?;
-        ask(alloc, &mut two, Second, words, wanted)?;
-        ask(alloc, &mut two, First, "read a 0 9", "bytes 6e6577")?;
-    }
-    expect_count(two.second.failures(), 0)
+    let mut two = open_two(rt, host.alloc(), root, watch)?;
+    ask_each_renewed(host, root, &mut two)
 }
 
 #[test]
 fn a_file_that_others_renewed_is_set_and_synced(rt: HostRuntime) -> Result<(), Fail> {
     let root = sample_folder(&rt, "renewed")?;
-    tell_renewed(&rt, &rt, root.as_str())?;
+    let watch = Watch::new(&rt, root.as_str())?;
+    tell_renewed(&rt, &rt, root.as_str(), watch)?;
     fs::remove_dir_all(&rt, root.as_str())?;
     Ok(())
 }

@@ -93,26 +93,19 @@ fn lone_worker<H: Wait + Clone + Drop>(rt: &H, alloc: Global) -> Result<Worker, 
     Ok(worker)
 }
 
-/// A new table, its only share, and a history that was just opened.
-pub struct NewTable<T: Ledgers> {
-    pub opened: Opened<LogEntry<T>>,
-    pub table: Table<T>,
-    pub kept: ThreadShare<T>,
-}
-
 /// A shared table, with the logs of a worker and of a writer.
-pub struct Recorded<T: Ledgers, N: Opening> {
-    pub shared_table: SharedTable<T, N>,
-    pub worker: ThreadLog<LogEntry<T>, Runs<N>>,
-    pub writer: ThreadLog<LogEntry<T>, Runs<N>>,
-}
-
-/// The table is shared from now on.
-pub fn record<T: Ledgers, N: Opening>(
+pub fn shared_table_of<T: Ledgers, N: Opening>(
     alloc: Global,
     opened: Opened<LogEntry<T>>,
     table: Table<T>,
-) -> Result<Recorded<T, N>, AllocError>
+) -> Result<
+    (
+        SharedTable<T, N>,
+        ThreadLog<LogEntry<T>, Runs<N>>,
+        ThreadLog<LogEntry<T>, Runs<N>>,
+    ),
+    AllocError,
+>
     requires history { opened.table.shared.table_id ≡ N.history }
     requires table { world_of table ≡ opened_world N.limits }
     requires threads { N.threads ≡ 2 }
@@ -120,11 +113,7 @@ pub fn record<T: Ledgers, N: Opening>(
     let (shared_table, mut thread_logs) = SharedTable::<T, N>::new(alloc, opened, table, 2)?;
     let writer = thread_logs.pop().ok_or(AllocError)?;
     let worker = thread_logs.pop().ok_or(AllocError)?;
-    Ok(Recorded {
-        shared_table,
-        worker,
-        writer,
-    })
+    Ok((shared_table, worker, writer))
 }
 
 /// Handles both jobs.
@@ -147,25 +136,18 @@ fn work_both<H: Wait + Drop, T: Ledgers, N: Opening>(
 fn work<H: Wait + Drop, T: Ledgers, N: Opening>(
     rt: &H,
     alloc: Global,
-    new: NewTable<T>,
+    opened: Opened<LogEntry<T>>,
+    table: Table<T>,
+    mut kept: ThreadShare<T>,
     mut worker: Worker,
     tree: MemTree,
     dirs: &Dirs,
 ) -> Result<(Image, u64), AllocError>
-    requires history { new.opened.table.shared.table_id ≡ N.history }
-    requires table { world_of new.table ≡ opened_world N.limits }
+    requires history { opened.table.shared.table_id ≡ N.history }
+    requires table { world_of table ≡ opened_world N.limits }
     requires threads { N.threads ≡ 2 }
 {
-    let NewTable {
-        opened,
-        table,
-        mut kept,
-    } = new;
-    let Recorded {
-        shared_table,
-        worker: thread_log,
-        writer: _,
-    } = record::<T, N>(alloc, opened, table)?;
+    let (shared_table, thread_log, _writer) = shared_table_of::<T, N>(alloc, opened, table)?;
     let mut served = Served { calls: tree, dirs };
     work_both(
         rt,
@@ -197,12 +179,7 @@ fn work_anew<H: Wait + Drop, T: Ledgers>(
     shares.destroy_empty();
     let kept = ThreadShare { share };
     let opened = Opened::new(alloc)?;
-    let new = NewTable {
-        opened,
-        table,
-        kept,
-    };
-    work::<H, T, Brand>(rt, alloc, new, worker, tree, &dirs)
+    work::<H, T, Brand>(rt, alloc, opened, table, kept, worker, tree, &dirs)
 }
 
 /// The reply to LOOKUP is returned by the queue, so its entry is given back.

@@ -6,7 +6,7 @@ ghost use Rattle.table_steps.specs.World.{opened_world};
 
 use crate::client::{Asks, Fates, Heard, Hears};
 use crate::story::{Comes, SETTINGS, holds_of, pieces_of};
-use crate::turns::{NewTable, Recorded, passes_of, record};
+use crate::turns::{passes_of, shared_table_of};
 use backing::Shared;
 use crossbeam_channel::bounded_with;
 use engine::{Sent, Served};
@@ -38,19 +38,12 @@ const THREE: &[(u64, Operation<'static>)] = &[
 /// The reply to INIT and the first entry are taken. The link breaks at the second entry.
 const FATES: Fates = Fates::InTurn(&[Sent::Taken, Sent::Taken, Sent::Broken]);
 
-/// A worker, and the writer of its replies.
-#[derive(Drop)]
-struct WorkerAndWriter {
-    pub worker: Worker,
-    pub writer: Writer,
-}
-
-/// A worker with four jobs in its queue, and its writer.
+/// A worker with four jobs in its queue, and the writer of its replies.
 fn both<H: Wait + Drop>(
     rt: &H,
     alloc: Global,
     mut asks: Asks<H>,
-) -> Result<WorkerAndWriter, AllocError> {
+) -> Result<(Worker, Writer), AllocError> {
     let (jobs, work, mut read) = bounded_with::<Job, Hand<Job>, Fair, Global>(alloc, 16)?;
     let (replies, receiver, mut written) = bounded_with::<
         QueuedReply<JobReply>,
@@ -63,84 +56,84 @@ fn both<H: Wait + Drop>(
     let mut reader = Reader::new(alloc, jobs, read)?;
     let _end = reader.turn(rt, &mut asks);
     let writer = Writer::new(alloc, receiver, written)?;
-    Ok(WorkerAndWriter { worker, writer })
+    Ok((worker, writer))
 }
 
-/// Handles all jobs, and then writes their replies together. Returns the table.
+/// Handles all jobs, and then writes their replies together.
 fn work_and_write<H: Wait + Drop, T: Ledgers, N: Opening>(
     rt: &H,
-    recorded: Recorded<T, N>,
+    shared_table: &SharedTable<T, N>,
+    thread_log: ThreadLog<LogEntry<T>, Runs<N>>,
+    own: &mut ThreadLog<LogEntry<T>, Runs<N>>,
     share: &mut Share<T>,
-    both: &mut WorkerAndWriter,
+    worker: &mut Worker,
+    writer: &mut Writer,
     served: &mut Served<Shared<H>, &Dirs>,
     hears: &mut Hears<H>,
-) -> SharedTable<T, N> {
-    let Recorded {
-        shared_table,
-        worker: thread_log,
-        writer: mut own,
-    } = recorded;
-    let mut table_handle = TableHandle::new(rt, &shared_table, thread_log);
+) {
+    let mut table_handle = TableHandle::new(rt, shared_table, thread_log);
     for _ in 0..4 {
-        let _turn = both.worker.turn(&mut table_handle, share, served);
+        let _turn = worker.turn(&mut table_handle, share, served);
     }
-    let WorkerAndWriter { writer, worker: _ } = both;
-    let _count = writer.turns(rt, hears, &shared_table, &mut own, share, &mut served.dirs);
-    shared_table
+    let _count = writer.turns(rt, hears, shared_table, own, share, &mut served.dirs);
 }
 
 /// The same on a shared table made of this one. Returns the table's final image.
 fn write<H: Wait + Drop, T: Ledgers, N: Opening>(
     rt: &H,
     alloc: Global,
-    new: NewTable<T>,
-    both: &mut WorkerAndWriter,
+    opened: Opened<LogEntry<T>>,
+    table: Table<T>,
+    mut kept: ThreadShare<T>,
+    mut worker: Worker,
+    writer: &mut Writer,
     tree: Shared<H>,
+    dirs: &Dirs,
     hears: &mut Hears<H>,
 ) -> Result<Image, AllocError>
-    requires history { new.opened.table.shared.table_id ≡ N.history }
-    requires table { world_of new.table ≡ opened_world N.limits }
+    requires history { opened.table.shared.table_id ≡ N.history }
+    requires table { world_of table ≡ opened_world N.limits }
     requires threads { N.threads ≡ 2 }
 {
-    let NewTable {
-        opened,
-        table,
-        mut kept,
-    } = new;
-    let dirs = Dirs::new(alloc)?;
-    let recorded = record::<T, N>(alloc, opened, table)?;
-    let mut served = Served {
-        calls: tree,
-        dirs: &dirs,
-    };
-    let shared_table = work_and_write(rt, recorded, &mut kept.share, both, &mut served, hears);
+    let (shared_table, thread_log, mut own) = shared_table_of::<T, N>(alloc, opened, table)?;
+    let mut served = Served { calls: tree, dirs };
+    work_and_write(
+        rt,
+        &shared_table,
+        thread_log,
+        &mut own,
+        &mut kept.share,
+        &mut worker,
+        writer,
+        &mut served,
+        hears,
+    );
     shared_table.close().into_table().export()
 }
 
 /// The same with a new table.
-fn write_anew<H: Wait + RandomSource + Drop, T: Ledgers>(
+fn write_anew<H: Wait + Drop, T: Ledgers>(
     rt: &H,
     alloc: Global,
+    seeds: Seeds,
     blanks: Blanks,
-    both: &mut WorkerAndWriter,
+    worker: Worker,
+    writer: &mut Writer,
     tree: Shared<H>,
     hears: &mut Hears<H>,
-) -> Result<Image, Fail>
+) -> Result<Image, AllocError>
     requires names { blanks ≡ T.names }
     requires shares { T.names.parts ≡ 1 }
 {
-    let seeds = Seeds::new(rt)?;
+    let dirs = Dirs::new(alloc)?;
     let (table, mut shares) = Table::<T>::open(alloc, Limits::default(), seeds, blanks, 1)?;
     let share = shares.pop().unwrap();
     shares.destroy_empty();
     let kept = ThreadShare { share };
     let opened = Opened::new(alloc)?;
-    let new = NewTable {
-        opened,
-        table,
-        kept,
-    };
-    Ok(write::<H, T, Brand>(rt, alloc, new, both, tree, hears)?)
+    write::<H, T, Brand>(
+        rt, alloc, opened, table, kept, worker, writer, tree, &dirs, hears,
+    )
 }
 
 /// Whether each reply of the batch counts as taken.
@@ -193,16 +186,14 @@ fn run<H: Wait + RandomSource + Clone + Drop>(
     asks: Asks<H>,
     hears: &mut Hears<H>,
 ) -> Result<(Image, Vec<Option<bool>>), Fail> {
-    let mut both = both(rt, alloc, asks)?;
+    let (worker, mut writer) = both(rt, alloc, asks)?;
+    let seeds = Seeds::new(rt)?;
     let Some(tree) = holds_of(rt, alloc, 1)?.pop() else {
         return Err(Fail::from("no tree"));
     };
     let blanks = Blanks::new(1);
-    let image = write_anew::<H, Brand>(rt, alloc, blanks, &mut both, tree, hears)?;
-    Ok((
-        image,
-        verdicts_of(alloc, both.writer.batch.settled.as_slice())?,
-    ))
+    let image = write_anew::<H, Brand>(rt, alloc, seeds, blanks, worker, &mut writer, tree, hears)?;
+    Ok((image, verdicts_of(alloc, writer.batch.settled.as_slice())?))
 }
 
 #[test]
