@@ -74,7 +74,7 @@ const HIDDEN: &[Story] = &[
         ],
         replies: &[Entry(2, File(3)), Opened(1), Done],
         after: &[(&["d"], Folder), (&["e"], File(0))],
-        names: Some(&["d", "e"]),
+        names: &["d", "e"],
         ..NOTHING
     },
     Story {

@@ -40,8 +40,8 @@ pub struct Story<'a> {
     pub replies: &'a [Says<'a>],
     /// Paths, and what is there at the end.
     pub after: &'a [(&'a [&'a str], Stands)],
-    /// All names in the root at the end, if it says them.
-    pub names: Option<&'a [&'a str]>,
+    /// All names in the root at the end; no name where it does not say them.
+    pub names: &'a [&'a str],
 }
 
 /// What is at a path.
@@ -64,7 +64,7 @@ pub const NOTHING: Story = Story {
     faults: &[],
     replies: &[],
     after: &[],
-    names: None,
+    names: &[],
 };
 
 /// The story failed: whether its replies were as it says, how many of its paths were, and whether the input ended after
@@ -216,10 +216,7 @@ fn are_all(alloc: Global, tree: &mut MemTree, names: &[&str]) -> Result<bool, Al
 
 /// Whether the names in the root are those that the story says, if it says them.
 fn are_named(alloc: Global, tree: &mut MemTree, story: &Story) -> Result<bool, AllocError> {
-    match story.names {
-        Some(names) => are_all(alloc, tree, names),
-        None => Ok(true),
-    }
+    Ok(story.names.is_empty() || are_all(alloc, tree, story.names)?)
 }
 
 /// Runs a story with these open folders. Fails if anything is unexpected.
