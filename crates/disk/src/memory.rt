@@ -81,7 +81,7 @@ impl MemoryDisk {
         self.schedule.set_now(now);
     }
 
-    /// Sets how often others have removed or moved a name.
+    /// Sets how often others have removed or moved a folder.
     pub fn set_changes(&self, changes: u64) {
         self.schedule.set_changes(changes);
     }
