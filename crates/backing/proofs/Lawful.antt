@@ -3,7 +3,7 @@ use Rattle.std.proofs.Common.{ℕ, ◌≡◌, length, take, List, ◌++◌, ◌�
 use Rattle.std.proofs.lemmas.Option.{none-some}
 use Rattle.paths.specs.Prefixes.{Name, Names}
 use Rattle.backing.specs.declared.entries.Item.{Item}
-use Rattle.backing.specs.declared.entries.Item.TheVariants.{Folder, File}
+use Rattle.backing.specs.declared.entries.Item.TheVariants.{Folder, File, Link, Special}
 use Rattle.backing.specs.Tree.{Tree, IsTree, IsFolder, Resolves, IsBare, with_item, without}
 use Rattle.backing.proofs.PathLemmas.{same_path}
 use Rattle.backing.proofs.Looking.{with_other, without_same, without_other}
@@ -18,6 +18,8 @@ pub folder_is : (o : Option Item) → IsFolder o → o ≡ Some Folder
 folder_is None h = absurd h
 folder_is (Some Folder) h = refl
 folder_is (Some (File bytes)) h = absurd h
+folder_is (Some (Link text)) h = absurd h
+folder_is (Some (Special special)) h = absurd h
 
 pub folder_not_file : (bytes : List ℕ) → Some Folder ≡ Some (File bytes) → ⊥
 folder_not_file bytes e = cc
@@ -91,11 +93,11 @@ stands_above at t p (name ∷ more) some =
     let child = stands_above at t (p ++ name ∷ []) more longer_path in
     some_item (at p) Folder (t.parents p name child)
 
--- a file has no names
-pub file_bare : (at : Tree) (p : Names) → IsTree at → (IsFolder (at p) → ⊥) → IsBare at p
-file_bare at p t file = record {
+-- what is no folder has no names
+pub other_bare : (at : Tree) (p : Names) → IsTree at → (IsFolder (at p) → ⊥) → IsBare at p
+other_bare at p t other = record {
   none = λ name. elim (cases_Option (at (p ++ name ∷ []))) [
     | inl e ↦ e
-    | inr some ↦ absurd (file (subst (λ (o : Option Item). IsFolder o) (sym (t.parents p name some)) tt))
+    | inr some ↦ absurd (other (subst (λ (o : Option Item). IsFolder o) (sym (t.parents p name some)) tt))
   ];
 }

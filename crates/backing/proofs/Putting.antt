@@ -1,15 +1,15 @@
 -- The tree of a list after one call.
-use Rattle.std.proofs.Common.{ℕ, ◌≡◌, get_or, set, List, ◌++◌, ◌∷◌, [], Option, Some, None, IsSome, refl, sym, ap, ◌∙◌, subst}
+use Rattle.std.proofs.Common.{ℕ, ◌≡◌, get_or, set, List, ◌++◌, ◌∷◌, [], Option, Some, None, refl, sym, ap, ◌∙◌, subst}
 use Rattle.std.specs.List.{remove}
 use Rattle.std.proofs.lemmas.Option.{none-some, same_Some, get_or_from_slice_get}
 use Rattle.paths.specs.Prefixes.{Names}
 use Rattle.backing.specs.declared.entries.Item.{Item}
-use Rattle.backing.specs.declared.entries.Item.TheVariants.{Folder, File}
+use Rattle.backing.specs.declared.entries.Item.TheVariants.{Folder, File, Link, Special}
 use Rattle.backing.specs.declared.entries.TreeEntry.{TreeEntry}
-use Rattle.backing.specs.Tree.{Tree, IsTree, IsFolder, Resolves, IsBare, with_item, without}
+use Rattle.backing.specs.Tree.{Tree, IsTree, IsFile, Resolves, IsBare, with_item, without}
 use Rattle.backing.specs.Entries.{look, tree_of, IsEntryTree, IsFoundAt}
 use Rattle.backing.proofs.Looking.{look-push, look-set, look-remove, IsDistinct-push, IsDistinct-set, IsDistinct-remove, tree-with, tree-without, tree-not_root}
-use Rattle.backing.proofs.Lawful.{no_item, with_new, with_bytes, without_bare}
+use Rattle.backing.proofs.Lawful.{with_new, with_bytes, without_bare}
 
 free_below : (es : List TreeEntry) (p : Names) → tree_of es p ≡ None → p ≡ [] → ⊥
 free_below es [] free e = none-some Folder (sym free)
@@ -53,10 +53,12 @@ set_lawful es p i e before after lawful below f path file item = record {
   tree = subst (λ (at : Tree). IsTree at) (sym (set_tree es p i e lawful below f path ∙ ap (λ (x : Item). with_item (tree_of es) p x) item)) (with_bytes (tree_of es) p before after lawful.tree file);
 }
 
-pub some_file : (o : Option Item) → IsSome o → (IsFolder o → ⊥) → (bytes : List ℕ) × (o ≡ Some (File bytes))
-some_file None some other = absurd (no_item None refl some)
-some_file (Some Folder) some other = absurd (other tt)
-some_file (Some (File bytes)) some other = (bytes, refl)
+pub some_file : (o : Option Item) → IsFile o → (bytes : List ℕ) × (o ≡ Some (File bytes))
+some_file None file = absurd file
+some_file (Some Folder) file = absurd file
+some_file (Some (File bytes)) file = (bytes, refl)
+some_file (Some (Link text)) file = absurd file
+some_file (Some (Special special)) file = absurd file
 
 pub file_below : (es : List TreeEntry) (p : Names) (bytes : List ℕ) → tree_of es p ≡ Some (File bytes) → p ≡ [] → ⊥
 file_below es [] bytes file e = cc

@@ -1,7 +1,7 @@
 -- The tests that several calls share, in order.
 use Rattle.std.specs.Prelude.{List, [], ◌∷◌}
 use Rattle.paths.specs.Prefixes.{Names}
-use Rattle.backing.specs.Calls.{Test, BelowRoot, Reached, Present, Free, NoFolder, NoFile, Differs, NotInto, NotOver, NoFileOnFolder, NoFolderOnFile, Bare}
+use Rattle.backing.specs.Calls.{Test, BelowRoot, Reached, Present, Free, FileAt, LinkAt, FolderAt, NoFolder, Differs, NotInto, NotOver, NoOtherOnFolder, NoFolderOnOther, Bare}
 
 -- something is at p
 abbrev pub present_tests : Names → List Test
@@ -13,11 +13,19 @@ free_tests p = Reached p ∷ Free p ∷ []
 
 -- a file is at p
 abbrev pub file_tests : Names → List Test
-file_tests p = Reached p ∷ Present p ∷ NoFolder p ∷ []
+file_tests p = Reached p ∷ Present p ∷ FileAt p ∷ []
+
+-- a link is at p
+abbrev pub link_tests : Names → List Test
+link_tests p = Reached p ∷ Present p ∷ LinkAt p ∷ []
+
+-- something else than a folder is at p
+abbrev pub other_tests : Names → List Test
+other_tests p = Reached p ∷ Present p ∷ NoFolder p ∷ []
 
 -- a folder is at p
 abbrev pub folder_tests : Names → List Test
-folder_tests p = Reached p ∷ Present p ∷ NoFile p ∷ []
+folder_tests p = Reached p ∷ Present p ∷ FolderAt p ∷ []
 
 -- something is at s, and it may be renamed
 abbrev pub source_tests : Names → Names → List Test
@@ -25,11 +33,11 @@ source_tests s t = BelowRoot s ∷ BelowRoot t ∷ Reached s ∷ Present s ∷ [
 
 -- it is of a kind that may replace what is at t
 abbrev pub kind_tests : Names → Names → List Test
-kind_tests s t = NoFileOnFolder s t ∷ NoFolderOnFile s t ∷ []
+kind_tests s t = NoOtherOnFolder s t ∷ NoFolderOnOther s t ∷ []
 
 -- it may be moved to t
 abbrev pub room_tests : Names → Names → List Test
-room_tests s t = NotInto s t ∷ NotOver s t ∷ Reached t ∷ NoFileOnFolder s t ∷ NoFolderOnFile s t ∷ Bare t ∷ []
+room_tests s t = NotInto s t ∷ NotOver s t ∷ Reached t ∷ NoOtherOnFolder s t ∷ NoFolderOnOther s t ∷ Bare t ∷ []
 
 -- it may be moved to t, with nothing at t
 abbrev pub new_tests : Names → Names → List Test

@@ -3,14 +3,17 @@ use Rattle.std.specs.Prelude.{ℕ, ℤ, ◌≡◌, ◌+◌, ◌-◌, ◌^◌, �
 use Rattle.paths.specs.Prefixes.{Names}
 use Rattle.backing.specs.declared.call.Answer.{Answer}
 use Rattle.backing.specs.declared.call.Answer.TheVariants.{Done, Fault, Wrote}
+use Rattle.payload.specs.declared.attributes.Special.{Special}
+use Rattle.backing.specs.declared.entries.Item.TheVariants as items
 use Rattle.backing.specs.declared.entries.TreeEntry.{TreeEntry}
 use Rattle.backing.specs.declared.told.Told.{Told}
 use Rattle.errno.specs.declared.TheConstants.{ENOMEM}
 use Rattle.backing.specs.declared.plans.Plan.{Plan}
 use Rattle.backing.specs.declared.plans.PlannedFault.{PlannedFault as Planned}
 use Rattle.backing.specs.declared.plans.PlannedFault.TheVariants as planned
-use Rattle.backing.specs.Tree.{Tree, IsTree}
-use Rattle.backing.specs.Calls.{memory_limit, Asked, AskMake, AskMakeDir, AskWrite, Works, Starves}
+use Rattle.backing.specs.Tree.{Tree, IsTree, with_item}
+use Rattle.backing.specs.Calls.{memory_limit, Asked, AskMake, AskMakeDir, AskWrite, PassesAll, Refuses, Works, Starves}
+use Rattle.backing.specs.Checks.{free_tests}
 use Rattle.backing.specs.Device.{Device, Sound, Before, Within, After, Performs, counted, fails, faulty}
 use Rattle.backing.specs.Entries.{tree_of}
 
@@ -87,6 +90,11 @@ pub record SameBut (old new : Memory) : Type 0 where
 abbrev pub PutsDir : Tree → Names → Result (Unit {0}) ℤ → Tree → Type 0
 PutsDir old p (Ok done) new = Works memory_limit old (AskMakeDir p None) Done new
 PutsDir old p (Err errno) new = Works memory_limit old (AskMakeDir p None) (Fault errno) new ⊎ (Starves memory_limit old (AskMakeDir p None) × (errno ≡ ENOMEM) × (new ≡ old))
+
+-- when something special can be added at that path, and why it cannot
+abbrev pub PutsSpecial : Tree → Names → Special → Result (Unit {0}) ℤ → Tree → Type 0
+PutsSpecial old p special (Ok done) new = PassesAll old (free_tests p) × (new ≡ with_item old p (items.Special special))
+PutsSpecial old p special (Err errno) new = (Refuses old (free_tests p) errno ⊎ (PassesAll old (free_tests p) × (errno ≡ ENOMEM))) × (new ≡ old)
 
 -- a file is made and then written; if only the write fails, the empty file remains
 abbrev pub PutsFile : Tree → Names → List ℕ → Result (Unit {0}) ℤ → Tree → Type 0

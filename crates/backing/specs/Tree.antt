@@ -1,10 +1,10 @@
 -- A tree says what is at each path. The empty path is the root's.
 use Rattle.std.specs.Prelude.{ℕ, ℤ, ◌≡◌, ◌<◌, ◌&&◌, Bool, true, false, if◌then◌else◌, [], ◌∷◌, ◌++◌, Option, Some, None, IsSome, length, take, drop}
 use Rattle.paths.specs.Prefixes.{Name, Names, is_name, is_prefix}
-use Rattle.backing.specs.declared.call.Kind.{Kind}
-use Rattle.backing.specs.declared.call.Kind.TheVariants as kinds
+use Rattle.payload.specs.declared.attributes.Kind.{Kind}
+use Rattle.payload.specs.declared.attributes.Kind.TheVariants as kinds
 use Rattle.backing.specs.declared.entries.Item.{Item}
-use Rattle.backing.specs.declared.entries.Item.TheVariants.{Folder, File}
+use Rattle.backing.specs.declared.entries.Item.TheVariants.{Folder, File, Link, Special}
 use Rattle.errno.specs.declared.TheConstants.{ENOENT, ENOTDIR}
 
 abbrev pub Tree : Type 0
@@ -41,21 +41,46 @@ exchanged at s t = λ q. if is_prefix s q then at (t ++ drop (length s) q) else 
 abbrev pub kind_of : Item → Kind
 kind_of Folder = kinds.Folder
 kind_of (File bytes) = kinds.File
+kind_of (Link text) = kinds.Link
+kind_of (Special special) = kinds.Special special
 
--- in bytes, 0 for a folder
+-- in bytes: of a link its text, and 0 for what has neither
 abbrev pub size_of : Item → ℕ
 size_of Folder = 0
 size_of (File bytes) = length bytes
+size_of (Link text) = length text
+size_of (Special special) = 0
 
 abbrev pub IsFile : Option Item → Type 0
 IsFile (Some (File bytes)) = Unit {0}
-IsFile (Some Folder) = ⊥
-IsFile None = ⊥
+IsFile other = ⊥
 
 abbrev pub IsFolder : Option Item → Type 0
 IsFolder (Some Folder) = Unit {0}
-IsFolder (Some (File bytes)) = ⊥
-IsFolder None = ⊥
+IsFolder other = ⊥
+
+abbrev pub IsLink : Option Item → Type 0
+IsLink (Some (Link text)) = Unit {0}
+IsLink other = ⊥
+
+-- something is there that is no folder
+abbrev pub IsOther : Option Item → Type 0
+IsOther None = ⊥
+IsOther (Some Folder) = ⊥
+IsOther (Some item) = Unit {0}
+
+-- something is there that is neither a folder nor a file
+abbrev pub IsNeither : Option Item → Type 0
+IsNeither None = ⊥
+IsNeither (Some Folder) = ⊥
+IsNeither (Some (File bytes)) = ⊥
+IsNeither (Some item) = Unit {0}
+
+-- something is there that is no link
+abbrev pub IsNoLink : Option Item → Type 0
+IsNoLink None = ⊥
+IsNoLink (Some (Link text)) = ⊥
+IsNoLink (Some item) = Unit {0}
 
 -- each path above p is a folder
 pub record Resolves (at : Tree) (p : Names) : Type 0 where
@@ -64,8 +89,8 @@ pub record Resolves (at : Tree) (p : Names) : Type 0 where
 -- why nothing is below this
 abbrev pub Blocks : Option Item → ℤ → Type 0
 Blocks None errno = errno ≡ ENOENT
-Blocks (Some (File bytes)) errno = errno ≡ ENOTDIR
 Blocks (Some Folder) errno = ⊥
+Blocks (Some item) errno = errno ≡ ENOTDIR
 
 -- the first path above p, from the root on, that is not a folder
 pub record Stops (at : Tree) (p : Names) (errno : ℤ) : Type 0 where

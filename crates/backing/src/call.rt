@@ -3,27 +3,11 @@
 ghost use Rattle.std.specs.Prelude.{◌≡◌, List};
 
 use paths::{Name, Path};
-use payload::Payload;
+use payload::{Details, Kind, Payload, Time};
 use std::marker::Model;
 
 /// The maximum length of a file in a memory tree, in bytes (own).
 pub const MAX_FILE_LEN: u64 = 1_048_576;
-
-/// What is at a path.
-#[derive(Clone, Copy, Debug, PartialEq, Eq)]
-pub enum Kind {
-    Folder,
-    File,
-}
-
-/// A point in time.
-#[derive(Clone, Copy, Debug, PartialEq, Eq)]
-pub struct Time {
-    /// Seconds since the beginning of 1970; 64 bits in two's complement.
-    pub seconds: u64,
-    /// Nanoseconds after these seconds; those that a directory reports are below 1,000,000,000.
-    pub nanos: u32,
-}
 
 /// The value that a time is set to.
 #[derive(Clone, Copy, Debug, PartialEq, Eq)]
@@ -31,27 +15,6 @@ pub enum NewTime {
     /// The time when the call is made.
     Now,
     At(Time),
-}
-
-/// What a directory reports about what is at a path, apart from its kind and its size.
-#[derive(Clone, Copy, Debug, PartialEq, Eq)]
-pub struct Details {
-    /// The inode number.
-    pub ino: u64,
-    /// Permission bits: the lowest twelve of a mode.
-    pub permissions: u32,
-    /// The number of hard links, as the directory counts them; `u32::MAX` if there are more.
-    pub links: u32,
-    /// The owner.
-    pub uid: u32,
-    /// The group.
-    pub gid: u32,
-    /// The time of the last read.
-    pub accessed: Time,
-    /// The time when its bytes, or the names in it, last changed.
-    pub modified: Time,
-    /// The time when its bytes or its details last changed.
-    pub changed: Time,
 }
 
 /// A name in a folder, and the kind of what is there.
@@ -118,7 +81,12 @@ pub enum Call<'a> {
         path: &'a Path,
         permissions: Option<u32>,
     },
-    /// Removes the file.
+    /// Makes a symbolic link with this text, which is no path here and is never followed.
+    MakeLink {
+        path: &'a Path,
+        text: &'a [u8],
+    },
+    /// Removes the file, or whatever else is there that is no folder.
     Remove(&'a Path),
     /// Removes the folder, which must be empty.
     RemoveDir(&'a Path),
@@ -143,6 +111,8 @@ pub enum Call<'a> {
         offset: u64,
         size: u32,
     },
+    /// Reads the text of the link.
+    ReadLink(&'a Path),
     /// Writes the data to the file at byte `offset`.
     Write {
         path: &'a Path,
@@ -179,13 +149,14 @@ pub enum Call<'a> {
 #[derive(Drop)]
 pub enum Answer {
     Done,
-    /// `size` is in bytes, and 0 for a folder.
+    /// `size` is in bytes: 0 for a folder, and for a link the length of its text.
     Stat {
         kind: Kind,
         size: u64,
         details: Details,
     },
     Names(Children),
+    /// The bytes of a file, or the text of a link.
     Bytes(Payload),
     /// How many bytes were written.
     Wrote(usize),

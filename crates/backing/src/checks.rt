@@ -4,14 +4,15 @@ ghost use Rattle.std.specs.Prelude.{◌≡◌, ◌≢◌, ◌≤◌, ◌<◌, []
 ghost use Rattle.std.specs.Option.{option_map};
 ghost use Rattle.backing.specs.Tree.{kind_of, Resolves, Stops};
 ghost use Rattle.backing.specs.Calls.{PassesAll, Refuses, Bare, Fits, memory_limit};
-ghost use Rattle.backing.specs.Checks.{present_tests, free_tests, file_tests, folder_tests};
+ghost use Rattle.backing.specs.Checks.{present_tests, free_tests, file_tests, link_tests, other_tests, folder_tests};
 ghost use Rattle.backing.specs.Entries.{tree_of, IsFoundAt, IsEntryTree};
 
-use crate::call::{Kind, MAX_FILE_LEN};
+use crate::call::MAX_FILE_LEN;
 use crate::entries::TreeEntry;
 use crate::lookups::{has_names, index_of, kind_at};
-use errno::{EBUSY, EEXIST, EFBIG, EISDIR, ENOENT, ENOTDIR, ENOTEMPTY};
+use errno::{EBUSY, EEXIST, EFBIG, EINVAL, EISDIR, ENOENT, ENOTDIR, ENOTEMPTY};
 use paths::Path;
+use payload::Kind;
 
 /// The path is not the root's.
 pub fn expect_below_root(path: &Path) -> Result<(), i32>
@@ -30,7 +31,7 @@ pub fn expect_reached(entries: &[TreeEntry], path: &Path) -> Result<(), i32>
     for depth in 0..names.len() {
         match kind_at(entries, &names[..depth]) {
             None => return Err(ENOENT),
-            Some(Kind::File) => return Err(ENOTDIR),
+            Some(Kind::File | Kind::Link | Kind::Special(_)) => return Err(ENOTDIR),
             Some(Kind::Folder) => {}
         }
     }
@@ -74,6 +75,33 @@ pub fn expect_file(entries: &[TreeEntry], path: &Path) -> Result<usize, i32>
             Some(i) => Ok(i),
             None => unreachable!(),
         },
+        Kind::Link | Kind::Special(_) => Err(EINVAL),
+    }
+}
+
+/// A link is at the path; returns the index of its entry.
+pub fn expect_link(entries: &[TreeEntry], path: &Path) -> Result<usize, i32>
+    ensures ok { OnOk result (PassesAll (tree_of entries.now) (link_tests path.now)) }
+    ensures found { IfOk result (IsFoundAt entries.now path.now) }
+    ensures err { IfErr result (Refuses (tree_of entries.now) (link_tests path.now)) }
+{
+    match expect_present(entries, path)? {
+        Kind::Folder | Kind::File | Kind::Special(_) => Err(EINVAL),
+        Kind::Link => match index_of(entries, path.names()) {
+            Some(i) => Ok(i),
+            None => unreachable!(),
+        },
+    }
+}
+
+/// Something that is no folder is at the path.
+pub fn expect_other(entries: &[TreeEntry], path: &Path) -> Result<(), i32>
+    ensures ok { OnOk result (PassesAll (tree_of entries.now) (other_tests path.now)) }
+    ensures err { IfErr result (Refuses (tree_of entries.now) (other_tests path.now)) }
+{
+    match expect_present(entries, path)? {
+        Kind::Folder => Err(EISDIR),
+        Kind::File | Kind::Link | Kind::Special(_) => Ok(()),
     }
 }
 
@@ -84,7 +112,7 @@ pub fn expect_folder(entries: &[TreeEntry], path: &Path) -> Result<(), i32>
 {
     match expect_present(entries, path)? {
         Kind::Folder => Ok(()),
-        Kind::File => Err(ENOTDIR),
+        Kind::File | Kind::Link | Kind::Special(_) => Err(ENOTDIR),
     }
 }
 

@@ -6,11 +6,12 @@ ghost use Rattle.backing.specs.Calls.{AskSetPermissions, AskSetOwner, AskSetTime
 ghost use Rattle.backing.specs.Entries.{tree_of};
 ghost use Rattle.backing.specs.Refusals.{Ends};
 
-use crate::call::{Answer, Details, Kind, Time};
+use crate::call::Answer;
 use crate::checks::expect_present;
 use crate::entries::TreeEntry;
 use crate::refusal::Refusal;
 use paths::Path;
+use payload::{Details, Kind, Time};
 
 /// The beginning of 1970.
 const BEGINNING: Time = Time {
@@ -18,12 +19,13 @@ const BEGINNING: Time = Time {
     nanos: 0,
 };
 
-/// The details of all files, or of all folders: the owner may write it, everyone may read a file and enter a folder,
-/// and all other numbers are 0. Setting details does not change them.
+/// The details of all that is of one kind: the owner may write it, everyone may read it and enter a folder, a link has all
+/// permission bits, and all other numbers are 0. Setting details does not change them.
 pub fn details_of(kind: Kind) -> Details {
     let (permissions, links) = match kind {
         Kind::Folder => (0o755, 2),
-        Kind::File => (0o644, 1),
+        Kind::File | Kind::Special(_) => (0o644, 1),
+        Kind::Link => (0o777, 1),
     };
     Details {
         ino: 0,

@@ -3,14 +3,17 @@
 ghost use Rattle.std.specs.Prelude.{◌≡◌};
 
 use crate::bytes::Bytes;
-use crate::call::Kind;
 use paths::Path;
+use payload::{Kind, Special};
 
 /// What is at a path.
 #[derive(Drop)]
 pub enum Item {
     Folder,
     File(Bytes),
+    /// A symbolic link, and its text.
+    Link(Bytes),
+    Special(Special),
 }
 
 impl Item {
@@ -22,16 +25,18 @@ impl Item {
         match self {
             Item::Folder => Kind::Folder,
             Item::File(_) => Kind::File,
+            Item::Link(_) => Kind::Link,
+            Item::Special(special) => Kind::Special(*special),
         }
     }
 
-    /// In bytes, 0 for a folder.
+    /// In bytes: of a link its text, and 0 for what has neither.
     pub fn size(&self) -> usize
         ensures { result ≡ size_of self.now }
     {
         match self {
-            Item::Folder => 0,
-            Item::File(bytes) => bytes.len(),
+            Item::Folder | Item::Special(_) => 0,
+            Item::File(bytes) | Item::Link(bytes) => bytes.len(),
         }
     }
 }

@@ -22,7 +22,7 @@ mod told;
 mod writing;
 
 pub use bytes::Bytes;
-pub use call::{Answer, Call, Child, Children, Details, Kind, MAX_FILE_LEN, NewTime, Time};
+pub use call::{Answer, Call, Child, Children, MAX_FILE_LEN, NewTime};
 pub use calls::{Calls, KnownTree};
 pub use memory::MemTree;
 pub use plans::PlannedFault;

@@ -5,9 +5,9 @@ ghost use Rattle.std.specs.Option.{option_map};
 ghost use Rattle.backing.specs.Tree.{is_path, kind_of, HasNames, IsBare};
 ghost use Rattle.backing.specs.Entries.{look, tree_of, IsFoundAt, IsEntryTree};
 
-use crate::call::Kind;
 use crate::entries::TreeEntry;
 use paths::{Name, Path};
+use payload::Kind;
 
 /// Whether both paths have the same names.
 pub fn are_same(names: &[Name], others: &[Name]) -> bool

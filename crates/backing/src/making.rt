@@ -1,8 +1,8 @@
-//! Calls that make a file or a folder.
+//! Calls that make a file, a folder or a link.
 
 ghost use Rattle.std.specs.Prelude.{◌≡◌, ℕ, Option, OnOk, OnErr, IfErr};
 ghost use Rattle.backing.specs.Tree.{with_item};
-ghost use Rattle.backing.specs.Calls.{AskMake, AskMakeDir, PassesAll};
+ghost use Rattle.backing.specs.Calls.{AskMake, AskMakeDir, AskMakeLink, PassesAll};
 ghost use Rattle.backing.specs.Checks.{free_tests};
 ghost use Rattle.backing.specs.Entries.{tree_of, IsEntryTree};
 ghost use Rattle.backing.specs.Refusals.{Ends, Refusing};
@@ -35,8 +35,25 @@ pub fn make_dir(entries: &mut Vec<TreeEntry>, path: &Path) -> Result<Answer, Ref
     Ok(Answer::Done)
 }
 
+/// Makes a link with this text.
+pub fn make_link(
+    alloc: Global,
+    entries: &mut Vec<TreeEntry>,
+    path: &Path,
+    text: &[u8],
+) -> Result<Answer, Refusal>
+    requires { IsEntryTree entries.old.items }
+    ensures ends { Ends (tree_of entries.old.items) (AskMakeLink path.now text.now) result (tree_of entries.new.items) }
+    ensures lawful { IsEntryTree entries.new.items }
+{
+    expect_free(entries, path)?;
+    let text = Vec::from_slice(alloc, text)?;
+    put(entries, path, Item::Link(Bytes::from_vec(text)))?;
+    Ok(Answer::Done)
+}
+
 /// Adds the item at a path with nothing at it.
-fn put(entries: &mut Vec<TreeEntry>, path: &Path, item: Item) -> Result<(), Refusal>
+pub fn put(entries: &mut Vec<TreeEntry>, path: &Path, item: Item) -> Result<(), Refusal>
     requires { IsEntryTree entries.old.items }
     ensures passes { OnOk result (PassesAll (tree_of entries.old.items) (free_tests path.now)) }
     ensures ok { OnOk result (tree_of entries.new.items ≡ with_item (tree_of entries.old.items) path.now item) }

@@ -1,7 +1,7 @@
 //! A directory in memory, which can be made to fail at planned calls.
 
 ghost use Rattle.std.specs.Prelude.{◌≡◌, ℕ, [], ◌∷◌, OnOk, OnErr};
-ghost use Rattle.backing.specs.Memory.{Memory, Gives, MakesCall, PutsDir, PutsFile, SameBut, memory_tree};
+ghost use Rattle.backing.specs.Memory.{Memory, Gives, MakesCall, PutsDir, PutsFile, PutsSpecial, SameBut, memory_tree};
 ghost use Rattle.backing.specs.SharedTree.{CallsFor};
 ghost use Rattle.backing.specs.Calls.{asked};
 ghost use Rattle.backing.specs.Tree.{IsTree};
@@ -9,10 +9,11 @@ ghost use Rattle.backing.specs.Tree.{IsTree};
 use crate::call::{Answer, Call};
 use crate::calls::{Calls, KnownTree};
 use crate::entries::TreeEntry;
-use crate::perform::{put_dir_in, put_file_in, treat};
+use crate::perform::{put_dir_in, put_file_in, put_special_in, treat};
 use crate::plans::{Plan, PlannedFault, add_plan, next_fault};
 use crate::told::{Told, count};
 use paths::Path;
+use payload::Special;
 use std::alloc::{AllocError, Global};
 use std::marker::Model;
 
@@ -79,6 +80,16 @@ impl MemTree {
         ensures tree { IsTree (memory_tree self.new) }
     {
         put_file_in(self.alloc, &mut self.standing, path, bytes)
+    }
+
+    /// Makes something that no call makes, as a pipe, or returns the error number that making an empty folder there would
+    /// give. It does not count as a call, so plans do not apply to it.
+    pub fn put_special(&mut self, path: &Path, special: Special) -> Result<(), i32>
+        ensures puts { PutsSpecial (memory_tree self.old) path.now special result (memory_tree self.new) }
+        ensures same { SameBut self.old self.new }
+        ensures tree { IsTree (memory_tree self.new) }
+    {
+        put_special_in(&mut self.standing, path, special)
     }
 
     /// How many of its calls have failed.

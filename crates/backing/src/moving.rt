@@ -11,13 +11,14 @@ ghost use Rattle.backing.specs.Entries.{tree_of, IsEntryTree};
 ghost use Rattle.backing.specs.Moves.{moved_path, with_path, with_paths, Clears};
 ghost use Rattle.backing.specs.Refusals.{Ends};
 
-use crate::call::{Answer, Kind};
+use crate::call::Answer;
 use crate::checks::{expect_bare, expect_below_root, expect_free, expect_present, expect_reached};
 use crate::entries::TreeEntry;
 use crate::lookups::{index_of, kind_at};
 use crate::refusal::Refusal;
 use errno::{EEXIST, EINVAL, EISDIR, ENOTDIR, ENOTEMPTY};
 use paths::Path;
+use payload::Kind;
 use std::alloc::{AllocError, Global};
 
 /// Moves what is at a path to another, with everything below it.
@@ -102,20 +103,20 @@ fn expect_new(entries: &[TreeEntry], from: &Path, to: &Path) -> Result<(), i32>
     expect_free(entries, to)
 }
 
-/// A file does not replace a folder, nor a folder a file.
+/// Only a folder replaces a folder, and a folder nothing else.
 fn expect_kinds(entries: &[TreeEntry], from: &Path, to: &Path) -> Result<(), i32>
     ensures ok { OnOk result (PassesAll (tree_of entries.now) (kind_tests from.now to.now)) }
     ensures err { IfErr result (Refuses (tree_of entries.now) (kind_tests from.now to.now)) }
 {
     let target = kind_at(entries, to.names());
     match kind_at(entries, from.names()) {
-        Some(Kind::File) => match target {
+        Some(Kind::File | Kind::Link | Kind::Special(_)) => match target {
             Some(Kind::Folder) => Err(EISDIR),
-            _ => Ok(()),
+            None | Some(Kind::File | Kind::Link | Kind::Special(_)) => Ok(()),
         },
         Some(Kind::Folder) => match target {
-            Some(Kind::File) => Err(ENOTDIR),
-            _ => Ok(()),
+            Some(Kind::File | Kind::Link | Kind::Special(_)) => Err(ENOTDIR),
+            None | Some(Kind::Folder) => Ok(()),
         },
         None => Ok(()),
     }

@@ -5,22 +5,23 @@ ghost use Rattle.backing.specs.Calls.{asked};
 ghost use Rattle.backing.specs.Entries.{tree_of, IsEntryTree};
 ghost use Rattle.backing.specs.Refusals.{Ends, answered, errno_after, settled};
 ghost use Rattle.backing.specs.Device.{Sound, After};
-ghost use Rattle.backing.specs.Memory.{Treated, PutsDir, PutsFile, device_of, treated_as};
+ghost use Rattle.backing.specs.Memory.{Treated, PutsDir, PutsFile, PutsSpecial, device_of, treated_as};
 
 use crate::call::{Answer, Call};
 use crate::details::set_details;
-use crate::entries::TreeEntry;
+use crate::entries::{Item, TreeEntry};
 use crate::exchanging::exchange;
-use crate::making::{make, make_dir};
+use crate::making::{make, make_dir, make_link, put};
 use crate::moving::{rename, rename_new};
 use crate::plans::PlannedFault;
-use crate::reading::{list, read, stat, sync};
+use crate::reading::{list, read, read_link, stat, sync};
 use crate::refusal::Refusal;
 use crate::removing::{remove, remove_dir};
 use crate::told::Told;
 use crate::writing::{set_len, write};
 use errno::ENOMEM;
 use paths::Path;
+use payload::Special;
 use std::alloc::Global;
 
 /// The answer and the effect of the tree itself.
@@ -38,12 +39,14 @@ pub fn perform(
         Call::List(path) => list(alloc, entries, path),
         Call::Make { path, .. } => make(alloc, entries, path),
         Call::MakeDir { path, .. } => make_dir(entries, path),
+        Call::MakeLink { path, text } => make_link(alloc, entries, path, text),
         Call::Remove(path) => remove(entries, path),
         Call::RemoveDir(path) => remove_dir(entries, path),
         Call::Rename { from, to } => rename(alloc, entries, from, to),
         Call::RenameNew { from, to } => rename_new(alloc, entries, from, to),
         Call::Exchange { first, second } => exchange(alloc, entries, first, second),
         Call::Read { path, offset, size } => read(alloc, entries, path, offset, size),
+        Call::ReadLink(path) => read_link(alloc, entries, path),
         Call::Write { path, offset, data } => write(entries, path, offset, data),
         Call::SetLen { path, size } => set_len(entries, path, size),
         Call::Sync(path) => sync(entries, path),
@@ -160,6 +163,22 @@ pub fn put_file_in(
         Err(errno) => return Err(errno),
     }
     settle(write(entries, path, 0, bytes))
+}
+
+/// Adds something special, without making a call.
+pub fn put_special_in(
+    entries: &mut Vec<TreeEntry>,
+    path: &Path,
+    special: Special,
+) -> Result<(), i32>
+    requires { IsEntryTree entries.old.items }
+    ensures puts { PutsSpecial (tree_of entries.old.items) path.now special result (tree_of entries.new.items) }
+    ensures lawful { IsEntryTree entries.new.items }
+{
+    match put(entries, path, Item::Special(special)) {
+        Ok(()) => Ok(()),
+        Err(refusal) => Err(refusal.errno()),
+    }
 }
 
 /// Whether it was done, or its error number.

@@ -1,37 +1,31 @@
 //! The calls that change nothing.
 
 ghost use Rattle.std.specs.Prelude.{◌≡◌, ◌<◌, ◌+◌, [], ◌∷◌, ◌++◌, None, Some, IfOk, IfSome, OnOk, length};
-ghost use Rattle.backing.specs.Tree.{IsFile, size_of};
-ghost use Rattle.backing.specs.Calls.{AskStat, AskList, AskRead, AskSync, Lists};
+ghost use Rattle.backing.specs.Tree.{size_of};
+ghost use Rattle.backing.specs.Calls.{AskStat, AskList, AskRead, AskReadLink, AskSync, Lists};
 ghost use Rattle.backing.specs.Entries.{tree_of, IsEntryTree};
 ghost use Rattle.backing.specs.Refusals.{Ends};
 
-use crate::call::{Answer, Child, Children, Kind};
-use crate::checks::{expect_file, expect_folder, expect_present};
+use crate::call::{Answer, Child, Children};
+use crate::checks::{expect_file, expect_folder, expect_link, expect_present};
 use crate::details::details_of;
 use crate::entries::{Item, TreeEntry};
 use crate::lookups::{child_of, index_of};
 use crate::refusal::Refusal;
 use paths::{Name, Path};
-use payload::Payload;
+use payload::{Kind, Payload};
 use std::alloc::{AllocError, Global};
 
 /// What is at the path.
 pub fn stat(entries: &[TreeEntry], path: &Path) -> Result<Answer, Refusal>
     ensures { Ends (tree_of entries.now) (AskStat path.now) result (tree_of entries.now) }
 {
-    match expect_present(entries, path)? {
-        Kind::Folder => Ok(Answer::Stat {
-            kind: Kind::Folder,
-            size: 0,
-            details: details_of(Kind::Folder),
-        }),
-        Kind::File => Ok(Answer::Stat {
-            kind: Kind::File,
-            size: size_at(entries, path) as u64,
-            details: details_of(Kind::File),
-        }),
-    }
+    let kind = expect_present(entries, path)?;
+    Ok(Answer::Stat {
+        kind,
+        size: size_at(entries, path) as u64,
+        details: details_of(kind),
+    })
 }
 
 /// The bytes of the file.
@@ -47,10 +41,25 @@ pub fn read(
     let i = expect_file(entries, path)?;
     let entry = &entries[i];
     match &entry.item {
-        Item::Folder => unreachable!(),
+        Item::Folder | Item::Link(_) | Item::Special(_) => unreachable!(),
         Item::File(bytes) => {
             let piece = bytes.read(alloc, offset, size)?;
             Ok(Answer::Bytes(Payload::new(piece.into_vec())))
+        }
+    }
+}
+
+/// The text of the link.
+pub fn read_link(alloc: Global, entries: &[TreeEntry], path: &Path) -> Result<Answer, Refusal>
+    ensures { Ends (tree_of entries.now) (AskReadLink path.now) result (tree_of entries.now) }
+{
+    let i = expect_link(entries, path)?;
+    let entry = &entries[i];
+    match &entry.item {
+        Item::Folder | Item::File(_) | Item::Special(_) => unreachable!(),
+        Item::Link(text) => {
+            let text = Vec::from_slice(alloc, text.as_slice())?;
+            Ok(Answer::Bytes(Payload::new(text)))
         }
     }
 }
@@ -96,16 +105,19 @@ fn push_child(list: &mut Vec<Child>, name: &Name, kind: Kind) -> Result<(), Allo
     Ok(())
 }
 
-/// The length of the file at the path.
+/// The length of what is at the path. The root has no entry.
 fn size_at(entries: &[TreeEntry], path: &Path) -> usize
-    requires { IsFile (tree_of entries.now path.now) }
     ensures { IfSome (tree_of entries.now path.now) (λ item. result ≡ size_of item) }
 {
-    match index_of(entries, path.names()) {
+    let names = path.names();
+    if names.is_empty() {
+        return 0;
+    }
+    match index_of(entries, names) {
         Some(i) => {
             let entry = &entries[i];
             entry.item.size()
         }
-        None => unreachable!(),
+        None => 0,
     }
 }

@@ -8,19 +8,19 @@ ghost use Rattle.backing.specs.Entries.{tree_of, IsEntryTree};
 ghost use Rattle.backing.specs.Refusals.{Ends};
 
 use crate::call::Answer;
-use crate::checks::{expect_bare, expect_below_root, expect_file, expect_folder};
+use crate::checks::{expect_bare, expect_below_root, expect_folder, expect_other};
 use crate::entries::TreeEntry;
 use crate::lookups::index_of;
 use crate::refusal::Refusal;
 use paths::Path;
 
-/// Removes the file.
+/// Removes the file, or whatever else is there that is no folder.
 pub fn remove(entries: &mut Vec<TreeEntry>, path: &Path) -> Result<Answer, Refusal>
     requires { IsEntryTree entries.old.items }
     ensures ends { Ends (tree_of entries.old.items) (AskRemove path.now) result (tree_of entries.new.items) }
     ensures lawful { IsEntryTree entries.new.items }
 {
-    expect_file(entries, path)?;
+    expect_other(entries, path)?;
     take_out(entries, path);
     Ok(Answer::Done)
 }

@@ -79,7 +79,7 @@ fn write_item(item: &mut Item, offset: usize, piece: &[u8]) -> Result<(), AllocE
     ensures err { OnErr result (item.new ≡ item.old) }
 {
     match item {
-        Item::Folder => Ok(()),
+        Item::Folder | Item::Link(_) | Item::Special(_) => Ok(()),
         Item::File(bytes) => bytes.write(offset, piece),
     }
 }
@@ -90,7 +90,7 @@ fn resize_item(item: &mut Item, size: usize) -> Result<(), AllocError>
     ensures err { OnErr result (item.new ≡ item.old) }
 {
     match item {
-        Item::Folder => Ok(()),
+        Item::Folder | Item::Link(_) | Item::Special(_) => Ok(()),
         Item::File(bytes) => bytes.set_len(size),
     }
 }

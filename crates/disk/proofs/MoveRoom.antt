@@ -3,58 +3,57 @@ use Rattle.std.proofs.Common.{◌≡◌, Option, Some, None, Ok, Err, sym, subst
 use Rattle.paths.specs.Prefixes.{Names}
 use Rattle.backing.specs.declared.entries.Item.{Item}
 use Rattle.backing.specs.declared.entries.Item.TheVariants as items
-use Rattle.backing.specs.Tree.{Tree, IsTree, IsFile, IsFolder as IsFolderItem, IsBare, HasNames}
-use Rattle.backing.proofs.Lawful.{some_item, file_bare}
+use Rattle.backing.specs.Tree.{Tree, IsTree, IsOther, IsFolder as IsFolderItem, IsBare, HasNames}
+use Rattle.backing.proofs.Lawful.{some_item, other_bare}
 use Rattle.disk.specs.declared.error.DiskError.{DiskError}
 use Rattle.disk.specs.declared.error.DiskError.TheVariants.{NotFolder, IsFolder}
 use Rattle.disk.specs.declared.spot.Content.{Content}
-use Rattle.disk.specs.declared.spot.Content.TheVariants.{Folder, File}
+use Rattle.disk.specs.declared.spot.Content.TheVariants.{Folder}
 use Rattle.disk.specs.Spots.{item_of, CanMove, CannotMove, FitsKinds}
 
 -- nothing stands at the target
 pub moves_free : (at : Tree) (s t : Names) (item : Item) → IsTree at → at s ≡ Some item → at t ≡ None → CanMove at s t
 moves_free at s t item tree source free =
     let no_folder : IsFolderItem (at t) → ⊥ = λ h. subst (λ (o : Option Item). IsFolderItem o) free h in
-    let no_file : IsFile (at t) → ⊥ = λ h. subst (λ (o : Option Item). IsFile o) free h in
+    let no_other : IsOther (at t) → ⊥ = λ h. subst (λ (o : Option Item). IsOther o) free h in
     record {
       source = some_item (at s) item source;
-      no_file_on_folder = λ file folder. no_folder folder;
-      no_folder_on_file = λ folder file. no_file file;
-      bare = file_bare at t tree no_folder;
+      no_other_on_folder = λ other folder. no_folder folder;
+      no_folder_on_other = λ folder other. no_other other;
+      bare = other_bare at t tree no_folder;
     }
 
 pub cannot_move : (at : Tree) (s t : Names) (a b : Content) (error : DiskError) → at s ≡ Some (item_of a) → at t ≡ Some (item_of b) → FitsKinds a b (Err error) → CannotMove at s t error
 cannot_move at s t Folder Folder error source target fits = cc
-cannot_move at s t (File bytes) (File others) error source target fits = cc
-cannot_move at s t (File bytes) Folder error source target fits =
-    let is : error ≡ IsFolder = cc in
-    subst (λ (e : DiskError). CannotMove at s t e) (sym is) (subst (λ (x : Option Item). IsFile x) (sym source) tt, subst (λ (x : Option Item). IsFolderItem x) (sym target) tt)
-cannot_move at s t Folder (File bytes) error source target fits =
+cannot_move at s t Folder b error source target fits =
     let is : error ≡ NotFolder = cc in
-    subst (λ (e : DiskError). CannotMove at s t e) (sym is) (subst (λ (x : Option Item). IsFolderItem x) (sym source) tt, subst (λ (x : Option Item). IsFile x) (sym target) tt)
+    subst (λ (e : DiskError). CannotMove at s t e) (sym is) (subst (λ (x : Option Item). IsFolderItem x) (sym source) tt, subst (λ (x : Option Item). IsOther x) (sym target) tt)
+cannot_move at s t a Folder error source target fits =
+    let is : error ≡ IsFolder = cc in
+    subst (λ (e : DiskError). CannotMove at s t e) (sym is) (subst (λ (x : Option Item). IsOther x) (sym source) tt, subst (λ (x : Option Item). IsFolderItem x) (sym target) tt)
+cannot_move at s t a b error source target fits = cc
 
--- both are of one kind
-same_kinds : (a b : Content) → FitsKinds a b (Ok tt) → (IsFile (Some (item_of a)) → IsFolderItem (Some (item_of b)) → ⊥) × (IsFolderItem (Some (item_of a)) → IsFile (Some (item_of b)) → ⊥)
-same_kinds Folder Folder fits = (λ file folder. file, λ folder file. file)
-same_kinds (File bytes) (File others) fits = (λ file folder. folder, λ folder file. folder)
-same_kinds (File bytes) Folder fits = absurd cc
-same_kinds Folder (File bytes) fits = absurd cc
+-- both are folders, or neither is
+same_kinds : (a b : Content) → FitsKinds a b (Ok tt) → (IsOther (Some (item_of a)) → IsFolderItem (Some (item_of b)) → ⊥) × (IsFolderItem (Some (item_of a)) → IsOther (Some (item_of b)) → ⊥)
+same_kinds Folder Folder fits = (λ other folder. other, λ folder other. other)
+same_kinds Folder b fits = absurd cc
+same_kinds a Folder fits = absurd cc
+same_kinds a b fits = (λ other folder. folder, λ folder other. folder)
 
 pub moves_onto : (at : Tree) (s t : Names) (a b : Content) → at s ≡ Some (item_of a) → at t ≡ Some (item_of b) → FitsKinds a b (Ok tt) → IsBare at t → CanMove at s t
 moves_onto at s t a b source target fits bare =
     let kinds = same_kinds a b fits in
     record {
       source = some_item (at s) (item_of a) source;
-      no_file_on_folder = λ file folder. kinds.0 (subst (λ (o : Option Item). IsFile o) source file) (subst (λ (o : Option Item). IsFolderItem o) target folder);
-      no_folder_on_file = λ folder file. kinds.1 (subst (λ (o : Option Item). IsFolderItem o) source folder) (subst (λ (o : Option Item). IsFile o) target file);
+      no_other_on_folder = λ other folder. kinds.0 (subst (λ (o : Option Item). IsOther o) source other) (subst (λ (o : Option Item). IsFolderItem o) target folder);
+      no_folder_on_other = λ folder other. kinds.1 (subst (λ (o : Option Item). IsFolderItem o) source folder) (subst (λ (o : Option Item). IsOther o) target other);
       bare = bare;
     }
 
 folder_fits : (a b : Content) → FitsKinds a b (Ok tt) → IsFolderItem (Some (item_of b)) → IsFolderItem (Some (item_of a))
 folder_fits Folder Folder fits folder = tt
-folder_fits (File bytes) (File others) fits folder = absurd folder
-folder_fits (File bytes) Folder fits folder = absurd cc
-folder_fits Folder (File bytes) fits folder = absurd folder
+folder_fits a Folder fits folder = absurd cc
+folder_fits a b fits folder = absurd folder
 
 -- names stand in the target
 pub moves_onto_names : (at : Tree) (s t : Names) (a b : Content) → IsTree at → at s ≡ Some (item_of a) → at t ≡ Some (item_of b) → FitsKinds a b (Ok tt) → HasNames at t → IsFolderItem (at s) × IsFolderItem (at t) × HasNames at t

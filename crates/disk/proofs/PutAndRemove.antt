@@ -1,19 +1,22 @@
 -- What a spot that comes or goes makes of the list.
-use Rattle.std.proofs.Common.{ℕ, ◌≡◌, ◌<◌, ◌==◌, suc, zero, cond, length, map, get_or, List, [], ◌∷◌, ◌++◌, Option, Some, None, refl, sym, ap, ◌∙◌, subst, arith, inl, inr}
+use Rattle.std.proofs.Common.{ℕ, ◌≡◌, ◌<◌, ◌==◌, ◌⊎◌, suc, zero, cond, length, map, get_or, List, [], ◌∷◌, ◌++◌, Option, Some, None, refl, sym, ap, ◌∙◌, subst, arith, inl, inr}
 use Rattle.std.specs.List.{remove}
 use Rattle.std.proofs.Math.ListN.{get_or-map}
 use Rattle.std.proofs.lemmas.Bool.{cases_eq}
 use Rattle.std.proofs.lemmas.List.{length-map, map-append}
 use Rattle.std.proofs.lemmas.Option.{get_or_from_slice_get, none-some, same_Some}
 use Rattle.paths.specs.Prefixes.{Names}
+use Rattle.payload.specs.declared.attributes.Special.{Special}
 use Rattle.backing.specs.declared.entries.Item.{Item}
-use Rattle.backing.specs.declared.entries.Item.TheVariants.{Folder, File}
+use Rattle.backing.specs.declared.entries.Item.TheVariants.{Folder}
 use Rattle.backing.specs.declared.entries.TreeEntry.{TreeEntry}
-use Rattle.backing.specs.Tree.{Tree, Resolves, IsFile, IsFolder, IsBare, with_item, without}
+use Rattle.backing.specs.Tree.{Tree, Resolves, IsFolder, IsOther, IsBare, with_item, without}
 use Rattle.backing.specs.Entries.{look, IsDistinct}
 use Rattle.backing.proofs.PathLemmas.{is_path-false}
 use Rattle.backing.proofs.Looking.{look-push, look-remove, IsDistinct-push, IsDistinct-remove}
-use Rattle.backing.proofs.Lawful.{with_new, without_bare, file_bare}
+use Rattle.backing.proofs.Lawful.{with_new, without_bare, other_bare}
+use Rattle.disk.specs.declared.spot.Content.{Content}
+use Rattle.disk.specs.declared.spot.Content.TheVariants as contents
 use Rattle.disk.specs.declared.spot.Spot.{Spot}
 use Rattle.disk.specs.Answers.{AllStayBut, MakesItem, RemovesFile, RemovesFolder}
 use Rattle.disk.specs.ReachedLemmas.{tree_of_is_tree, tree_of_entries}
@@ -167,12 +170,22 @@ pub record RemovedFile (old new : List Spot) (p : Names) : Type 0 where
   pub lawful : IsLawful new
   pub none : NoneComes old new
 
-pub removed_file : (old new : List Spot) (p : Names) (i : ℕ) (bytes : List ℕ) → IsLawful old → IsSpotAt old p i → (p ≡ [] → ⊥) → tree_of old p ≡ Some (File bytes) → new ≡ remove old i → RemovedFile old new p
-removed_file old new p i bytes lawful at low stands is =
-    let no_folder : IsFolder (tree_of old p) → ⊥ = λ folder. subst (λ (o : Option Item). IsFolder o) stands folder in
-    let it = removed old p i lawful at low (file_bare (tree_of old) p (tree_of_is_tree old) no_folder) in
+other_no_folder : (o : Option Item) → IsOther o → IsFolder o → ⊥
+other_no_folder None other folder = other
+other_no_folder (Some Folder) other folder = other
+other_no_folder (Some item) other folder = folder
+
+-- a file, a link or what is special
+pub other_content : (content : Content) → ((bytes : List ℕ) × (content ≡ contents.File bytes)) ⊎ (((text : List ℕ) × (content ≡ contents.Link text)) ⊎ ((special : Special) × (content ≡ contents.Special special))) → IsOther (Some (item_of content))
+other_content content (inl file) = subst (λ (c : Content). IsOther (Some (item_of c))) (sym file.1) tt
+other_content content (inr (inl link)) = subst (λ (c : Content). IsOther (Some (item_of c))) (sym link.1) tt
+other_content content (inr (inr special)) = subst (λ (c : Content). IsOther (Some (item_of c))) (sym special.1) tt
+
+pub removed_file : (old new : List Spot) (p : Names) (i : ℕ) → IsLawful old → IsSpotAt old p i → (p ≡ [] → ⊥) → IsOther (tree_of old p) → new ≡ remove old i → RemovedFile old new p
+removed_file old new p i lawful at low other is =
+    let it = removed old p i lawful at low (other_bare (tree_of old) p (tree_of_is_tree old) (other_no_folder (tree_of old p) other)) in
     subst (λ (l : List Spot). RemovedFile old l p) (sym is) (record {
-      removes = record { file = subst (λ (o : Option Item). IsFile o) (sym stands) tt; tree = it.becomes.tree; stay = stay_but old p i it };
+      removes = record { other = other; tree = it.becomes.tree; stay = stay_but old p i it };
       lawful = it.becomes.lawful;
       none = it.none;
     })

@@ -1,16 +1,17 @@
 -- What an honest system answers, and what stands below its folder then. An error by which POSIX has the system say what stands there is
 -- true; any other error is one of the device, and says nothing.
-use Rattle.std.specs.Prelude.{ℕ, ◌≡◌, ◌<◌, ◌≤◌, ◌⊎◌, ◌||◌, Bool, false, List, [], ◌∷◌, ◌++◌, Some, None, IsSome, is_some, Result, Ok, Err, length, take, drop, if◌then◌else◌}
+use Rattle.std.specs.Prelude.{ℕ, ◌≡◌, ◌<◌, ◌≤◌, ◌⊎◌, ◌||◌, Bool, false, List, [], ◌∷◌, ◌++◌, Some, None, IsSome, is_some, Result, Ok, Err, Vec, length, take, drop, if◌then◌else◌}
+use Rattle.std.specs.declared.alloc.Global.{Global}
 use Rattle.paths.specs.Prefixes.{Name, Names, is_name, is_prefix}
 use Rattle.backing.specs.declared.entries.Item.{Item}
-use Rattle.backing.specs.declared.entries.Item.TheVariants.{Folder, File}
+use Rattle.backing.specs.declared.entries.Item.TheVariants.{Folder, File, Link}
 use Rattle.backing.specs.Files.{written, resized}
-use Rattle.backing.specs.Tree.{Tree, IsFile, IsFolder as IsFolderItem, HasNames, IsBare, is_path, with_item, without, moved, kind_of, size_of}
+use Rattle.backing.specs.Tree.{Tree, IsFile, IsFolder as IsFolderItem, IsOther, HasNames, IsBare, is_path, with_item, without, moved, kind_of, size_of}
 use Rattle.disk.specs.declared.stat.Stat.{Stat}
 use Rattle.disk.specs.declared.error.DiskError.{DiskError}
 use Rattle.disk.specs.declared.error.DiskError.TheVariants.{Absent, Exists, NotFolder, IsFolder, NotEmpty, Failed}
 
--- the look is one at what stands at q. Nothing but files and folders stands below an honest system's folder.
+-- The look is one at what stands at q. An honest system shows all that stands below its folder.
 pub record IsStat (at : Tree) (q : Names) (stat : Stat) : Type 0 where
   pub item : Item
   pub stands : at q ≡ Some item
@@ -32,7 +33,7 @@ Looks at q (Err error) = Unit {0}
 abbrev pub OpensDir : {H : Type 0} → Tree → (H → Names → Type 0) → Names → Result H DiskError → Type 0
 OpensDir at stands q (Ok handle) = stands handle q × (at q ≡ Some Folder)
 OpensDir at stands q (Err Absent) = at q ≡ None
-OpensDir at stands q (Err NotFolder) = IsFile (at q)
+OpensDir at stands q (Err NotFolder) = IsOther (at q)
 OpensDir at stands q (Err error) = Unit {0}
 
 -- what is open stands at q, and is a file
@@ -45,6 +46,12 @@ OpensFile at stands q (Ok handle) = stands handle q × IsFile (at q)
 OpensFile at stands q (Err Absent) = at q ≡ None
 OpensFile at stands q (Err IsFolder) = IsFolderItem (at q)
 OpensFile at stands q (Err error) = Unit {0}
+
+-- the text of the link at q
+abbrev pub ReadsLink : Tree → Names → Result (Vec ℕ Global) DiskError → Type 0
+ReadsLink at q (Ok text) = at q ≡ Some (Link text.items)
+ReadsLink at q (Err Absent) = at q ≡ None
+ReadsLink at q (Err error) = Unit {0}
 
 -- so many bytes of the file at q, from the offset on; none at its end alone
 pub record ReadsPart (at : Tree) (q : Names) (offset n : ℕ) (buffer : List ℕ) : Type 0 where
@@ -131,9 +138,13 @@ abbrev pub MakesDir : {H : Type 0} → Tree → (H → Names → Type 0) → Nam
 MakesDir at old q (Ok done) at' new = MakesItem at old q Folder at' new
 MakesDir at old q (Err error) at' new = MakesNone at old q Folder error at' new
 
--- the file at q is gone
+abbrev pub MakesLink : {H : Type 0} → Tree → (H → Names → Type 0) → Names → List ℕ → Result (Unit {0}) DiskError → Tree → (H → Names → Type 0) → Type 0
+MakesLink at old q text (Ok done) at' new = MakesItem at old q (Link text) at' new
+MakesLink at old q text (Err error) at' new = MakesNone at old q (Link text) error at' new
+
+-- what stood at q, which was no folder, is gone
 pub record RemovesFile {H : Type 0} (at : Tree) (old : H → Names → Type 0) (q : Names) (at' : Tree) (new : H → Names → Type 0) : Type 0 where
-  pub file : IsFile (at q)
+  pub other : IsOther (at q)
   pub tree : at' ≡ without at q
   pub stay : AllStayBut q old new
 
@@ -155,7 +166,7 @@ pub record RemovesFolder {H : Type 0} (at : Tree) (old : H → Names → Type 0)
 abbrev pub RemovesDir : {H : Type 0} → Tree → (H → Names → Type 0) → Names → Result (Unit {0}) DiskError → Tree → (H → Names → Type 0) → Type 0
 RemovesDir at old q (Ok done) at' new = RemovesFolder at old q at' new
 RemovesDir at old q (Err Absent) at' new = (at q ≡ None) × Stays at old at' new
-RemovesDir at old q (Err NotFolder) at' new = IsFile (at q) × Stays at old at' new
+RemovesDir at old q (Err NotFolder) at' new = IsOther (at q) × Stays at old at' new
 RemovesDir at old q (Err NotEmpty) at' new = IsFolderItem (at q) × HasNames at q × Stays at old at' new
 RemovesDir at old q (Err (Failed errno)) at' new = Stays at old at' new ⊎ RemovesFolder at old q at' new
 RemovesDir at old q (Err error) at' new = Stays at old at' new
@@ -172,8 +183,8 @@ new_path s t p = if is_prefix s p then t ++ drop (length s) p else p
 -- What stood at s or below it stands at t or below it, what is open moves with it, and what stood at t is gone.
 pub record Moves {H : Type 0} (at : Tree) (old : H → Names → Type 0) (s t : Names) (at' : Tree) (new : H → Names → Type 0) : Type 0 where
   pub source : IsSome (at s)
-  pub no_file_on_folder : IsFile (at s) → IsFolderItem (at t) → ⊥
-  pub no_folder_on_file : IsFolderItem (at s) → IsFile (at t) → ⊥
+  pub no_other_on_folder : IsOther (at s) → IsFolderItem (at t) → ⊥
+  pub no_folder_on_other : IsFolderItem (at s) → IsOther (at t) → ⊥
   pub bare : IsBare at t
   pub tree : at' ≡ moved at s t
   pub stay : (handle : H) (p : Names) → is_prefix t p ≡ false → old handle p → new handle (new_path s t p)
@@ -182,8 +193,8 @@ pub record Moves {H : Type 0} (at : Tree) (old : H → Names → Type 0) (s t : 
 abbrev pub Renames : {H : Type 0} → Tree → (H → Names → Type 0) → Names → Names → Result (Unit {0}) DiskError → Tree → (H → Names → Type 0) → Type 0
 Renames at old s t (Ok done) at' new = Moves at old s t at' new
 Renames at old s t (Err Absent) at' new = (at s ≡ None) × Stays at old at' new
-Renames at old s t (Err IsFolder) at' new = IsFile (at s) × IsFolderItem (at t) × Stays at old at' new
-Renames at old s t (Err NotFolder) at' new = IsFolderItem (at s) × IsFile (at t) × Stays at old at' new
+Renames at old s t (Err IsFolder) at' new = IsOther (at s) × IsFolderItem (at t) × Stays at old at' new
+Renames at old s t (Err NotFolder) at' new = IsFolderItem (at s) × IsOther (at t) × Stays at old at' new
 Renames at old s t (Err NotEmpty) at' new = IsFolderItem (at s) × IsFolderItem (at t) × HasNames at t × Stays at old at' new
 Renames at old s t (Err (Failed errno)) at' new = Stays at old at' new ⊎ Moves at old s t at' new
 Renames at old s t (Err error) at' new = Stays at old at' new

@@ -2,14 +2,14 @@
 use Rattle.std.specs.Prelude.{[], ◌∷◌, ◌++◌, Option, Some, None}
 use Rattle.paths.specs.Prefixes.{Names}
 use Rattle.backing.specs.declared.entries.Item.{Item}
-use Rattle.backing.specs.declared.entries.Item.TheVariants.{Folder, File}
+use Rattle.backing.specs.declared.entries.Item.TheVariants.{Folder}
 use Rattle.backing.specs.Tree.{Tree}
 
 -- what stands below what stands here
 abbrev pub below : Option Item → Option Item → Option Item
 below None item = None
 below (Some Folder) item = item
-below (Some (File bytes)) item = None
+below (Some other) item = None
 
 -- what stands at p below up, where all on the way are folders
 abbrev pub reached_from : Tree → Names → Names → Option Item

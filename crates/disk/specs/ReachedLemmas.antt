@@ -3,7 +3,7 @@ use Rattle.std.proofs.Common.{◌≡◌, List, [], ◌∷◌, ◌++◌, Option, 
 use mathlib.Core.Path.{fun_ext}
 use Rattle.paths.specs.Prefixes.{Name, Names}
 use Rattle.backing.specs.declared.entries.Item.{Item}
-use Rattle.backing.specs.declared.entries.Item.TheVariants.{Folder, File}
+use Rattle.backing.specs.declared.entries.Item.TheVariants.{Folder}
 use Rattle.backing.specs.Tree.{Tree, IsTree}
 use Rattle.backing.specs.Entries.{look}
 use Rattle.backing.proofs.Lawful.{no_item, stands_above, cases_Option}
@@ -15,7 +15,7 @@ use Rattle.disk.specs.Spots.{entries_of, tree_of}
 below_some : (up item : Option Item) → IsSome (below up item) → (up ≡ Some Folder) × IsSome item
 below_some None item some = absurd (no_item None refl some)
 below_some (Some Folder) item some = (refl, some)
-below_some (Some (File bytes)) item some = absurd (no_item None refl some)
+below_some (Some other) item some = absurd (no_item None refl some)
 
 below_folder : (up item : Option Item) → up ≡ Some Folder → below up item ≡ item
 below_folder up item e = ap (λ (o : Option Item). below o item) e
@@ -23,7 +23,7 @@ below_folder up item e = ap (λ (o : Option Item). below o item) e
 below_none : (up : Option Item) → below up None ≡ None
 below_none None = refl
 below_none (Some Folder) = refl
-below_none (Some (File bytes)) = refl
+below_none (Some other) = refl
 
 parent_of : (at : Tree) (start up : Names) (name : Name) → IsSome (reached_from at start (up ++ name ∷ [])) → reached_from at start up ≡ Some Folder
 parent_of at start [] name some = (below_some (at start) (at (start ++ name ∷ [])) some).0

@@ -5,10 +5,10 @@ use Rattle.paths.specs.Prefixes.{Names, is_prefix}
 use Rattle.backing.specs.declared.entries.Item.{Item}
 use Rattle.backing.specs.declared.entries.Item.TheVariants as items
 use Rattle.backing.specs.declared.entries.TreeEntry.{TreeEntry}
-use Rattle.backing.specs.Tree.{Tree, IsTree, IsFile, IsFolder as IsFolderItem, IsBare, HasNames, moved}
+use Rattle.backing.specs.Tree.{Tree, IsTree, IsFolder as IsFolderItem, IsOther, IsBare, HasNames, moved}
 use Rattle.backing.specs.Entries.{look, IsDistinct}
 use Rattle.disk.specs.declared.spot.Content.{Content}
-use Rattle.disk.specs.declared.spot.Content.TheVariants.{Folder, File}
+use Rattle.disk.specs.declared.spot.Content.TheVariants.{Folder, File, Link, Special}
 use Rattle.disk.specs.declared.spot.Spot.{Spot}
 use Rattle.disk.specs.declared.spot.MemoryHandle.{MemoryHandle}
 use Rattle.disk.specs.declared.error.DiskError.{DiskError}
@@ -19,6 +19,8 @@ use Rattle.disk.specs.Answers.{new_path}
 abbrev pub item_of : Content → Item
 item_of Folder = items.Folder
 item_of (File bytes) = items.File bytes
+item_of (Link text) = items.Link text
+item_of (Special special) = items.Special special
 
 abbrev pub entry_of : Spot → TreeEntry
 entry_of spot = record { path = spot.path; item = item_of spot.content }
@@ -95,15 +97,15 @@ pub record MovesAll (old : List Spot) (s t : Names) (new : List Spot) : Type 0 w
 -- what a rename needs
 pub record CanMove (at : Tree) (s t : Names) : Type 0 where
   pub source : IsSome (at s)
-  pub no_file_on_folder : IsFile (at s) → IsFolderItem (at t) → ⊥
-  pub no_folder_on_file : IsFolderItem (at s) → IsFile (at t) → ⊥
+  pub no_other_on_folder : IsOther (at s) → IsFolderItem (at t) → ⊥
+  pub no_folder_on_other : IsFolderItem (at s) → IsOther (at t) → ⊥
   pub bare : IsBare at t
 
 -- why it is not there
 abbrev pub CannotMove : Tree → Names → Names → DiskError → Type 0
 CannotMove at s t Absent = at s ≡ None
-CannotMove at s t IsFolder = IsFile (at s) × IsFolderItem (at t)
-CannotMove at s t NotFolder = IsFolderItem (at s) × IsFile (at t)
+CannotMove at s t IsFolder = IsOther (at s) × IsFolderItem (at t)
+CannotMove at s t NotFolder = IsFolderItem (at s) × IsOther (at t)
 CannotMove at s t NotEmpty = IsFolderItem (at s) × IsFolderItem (at t) × HasNames at t
 CannotMove at s t Exists = ⊥
 CannotMove at s t (Failed errno) = ⊥
@@ -127,8 +129,8 @@ with_paths (spot ∷ spots) (p ∷ paths) = with_path spot p ∷ with_paths spot
 
 -- The bytes at the buffer's start are n of the file's, from the offset on; none at its end alone.
 abbrev pub HasPart : Item → ℕ → ℕ → List ℕ → Type 0
-HasPart items.Folder offset n buffer = ⊥
 HasPart (items.File bytes) offset n buffer = (take n buffer ≡ take n (drop offset bytes)) × (n ≤ length (drop offset bytes)) × (n ≡ 0 → length bytes ≤ offset)
+HasPart item offset n buffer = ⊥
 
 -- It is a file before and after, with these bytes then.
 pub record ChangesBytes (old : Content) (change : List ℕ → List ℕ) (new : Content) : Type 0 where
@@ -147,6 +149,6 @@ pub record ChangesAt (old : List Spot) (index : ℕ) (change : List ℕ → List
 -- Whether what stands there is of a kind that the other may replace.
 abbrev pub FitsKinds : Content → Content → Result (Unit {0}) DiskError → Type 0
 FitsKinds Folder Folder result = result ≡ Ok tt
-FitsKinds (File bytes) (File others) result = result ≡ Ok tt
-FitsKinds (File bytes) Folder result = result ≡ Err IsFolder
-FitsKinds Folder (File bytes) result = result ≡ Err NotFolder
+FitsKinds Folder other result = result ≡ Err NotFolder
+FitsKinds other Folder result = result ≡ Err IsFolder
+FitsKinds other another result = result ≡ Ok tt

@@ -1,7 +1,8 @@
 //! What was set in a disk in memory beside bytes. No clause says what it tells.
 
 use crate::stat::Change;
-use backing::{Details, Kind, NewTime, Time};
+use backing::NewTime;
+use payload::{Details, Kind, Time};
 use std::alloc::{AllocError, Global};
 use std::cell::RefCell;
 
@@ -68,7 +69,8 @@ fn find(kept: &[Attribute], number: u64, kind: Kind) -> Details {
 fn usual(number: u64, kind: Kind) -> Details {
     let (permissions, links) = match kind {
         Kind::Folder => (0o755, 2),
-        Kind::File => (0o644, 1),
+        Kind::File | Kind::Special(_) => (0o644, 1),
+        Kind::Link => (0o777, 1),
     };
     Details {
         ino: number,

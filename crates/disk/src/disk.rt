@@ -2,7 +2,7 @@
 
 ghost use Rattle.std.specs.Prelude.{ℕ, List, [], ◌∷◌, ◌++◌, ◌≡◌, ◌<◌, ◌≤◌, IfOk, IfSome, OnOk, length};
 ghost use Rattle.paths.specs.Prefixes.{Names};
-ghost use Rattle.disk.specs.Names.{IsLawfulName};
+ghost use Rattle.disk.specs.Names.{IsLawfulName, IsLinkText};
 
 use crate::error::DiskError;
 use crate::stat::{Access, Change, Stat};
@@ -16,7 +16,7 @@ use std::alloc::Global;
 pub trait Disk {
     ghost use Rattle.backing.specs.Tree.{Tree, IsTree};
     ghost use Rattle.disk.specs.declared.stat.Change.{Change};
-    ghost use Rattle.disk.specs.Answers.{Inspects, Looks, OpensDir, OpensFile, StandsAsFile, Reads, ListsNames, Makes, MakesDir, Removes, RemovesDir, Renames, Writes, Cuts, AreApart};
+    ghost use Rattle.disk.specs.Answers.{Inspects, Looks, OpensDir, OpensFile, StandsAsFile, Reads, ReadsLink, ListsNames, Makes, MakesDir, MakesLink, Removes, RemovesDir, Renames, Writes, Cuts, AreApart};
 
     /// A file or folder that is open for as long as the value is there. No value ever comes back.
     type Handle: Drop;
@@ -101,6 +101,11 @@ pub trait Disk {
         ensures within { IfOk result (λ n. n ≤ length buffer.new) }
         ensures bytes { (p : Names) → stands self.now file.now p → Reads (tree self.now) p offset result buffer.new };
 
+    /// The text of the link at the name, which is not followed: `readlinkat`.
+    fn read_link(&self, dir: &Self::Handle, name: &Name) -> Result<Vec<u8>, DiskError>
+        requires { IsLawfulName name.now }
+        ensures { (up : Names) → stands self.now dir.now up → ReadsLink (tree self.now) (up ++ name.now ∷ []) result };
+
     /// The names in an open folder, without `.` and `..`: `getdents`.
     fn list(&self, dir: &Self::Handle) -> Result<Vec<Name>, DiskError>
         ensures { (p : Names) → stands self.now dir.now p → IfOk result (λ names. ListsNames (tree self.now) p names.items) };
@@ -113,7 +118,7 @@ pub trait Disk {
     fn set(&self, handle: &Self::Handle, change: Change) -> Result<(), DiskError>
         ensures { (p : Names) → stands self.now handle.now p → OnOk result (has_set self.now p change) };
 
-    /// Sets it of what stands at the name and cannot be opened, and of no link: `fchmodat`, `fchownat`, `utimensat`.
+    /// Sets it of what stands at the name and cannot be opened, a link itself: `fchmodat`, `fchownat`, `utimensat`.
     fn set_at(&self, dir: &Self::Handle, name: &Name, change: Change) -> Result<(), DiskError>
         requires { IsLawfulName name.now }
         ensures { (up : Names) → stands self.now dir.now up → OnOk result (has_set self.now (up ++ name.now ∷ []) change) };
@@ -154,7 +159,13 @@ pub trait Disk {
         requires { IsLawfulName name.now }
         ensures { (up : Names) → stands self.old dir.now up → MakesDir (tree self.old) (stands self.old) (up ++ name.now ∷ []) result (tree self.new) (stands self.new) };
 
-    /// Removes the file: `unlinkat`.
+    /// Makes a link with that text where nothing stands: `symlinkat`.
+    fn make_link(&mut self, dir: &Self::Handle, name: &Name, text: &[u8]) -> Result<(), DiskError>
+        requires name { IsLawfulName name.now }
+        requires text { IsLinkText text.now }
+        ensures { (up : Names) → stands self.old dir.now up → MakesLink (tree self.old) (stands self.old) (up ++ name.now ∷ []) text.now result (tree self.new) (stands self.new) };
+
+    /// Removes what is no folder: `unlinkat`.
     fn remove_file(&mut self, dir: &Self::Handle, name: &Name) -> Result<(), DiskError>
         requires { IsLawfulName name.now }
         ensures { (up : Names) → stands self.old dir.now up → Removes (tree self.old) (stands self.old) (up ++ name.now ∷ []) result (tree self.new) (stands self.new) };

@@ -23,7 +23,7 @@ pub use disk::{Disk, HonestDisk};
 pub use error::DiskError;
 pub use memory::MemoryDisk;
 pub use names::is_lawful;
-pub use spot::MemoryHandle;
+pub use spot::{Content, MemoryHandle};
 pub use stat::{Access, Change, FileId, Stat};
 pub use system::System;
 pub use unknown::Unknown;

@@ -2,13 +2,15 @@
 
 use crate::attributes::Attributes;
 use crate::error::DiskError;
+use crate::reading::read_link;
 use crate::schedule::Schedule;
 use crate::spot::{Content, MemoryHandle, Spot};
 use crate::standing::Standing;
 use crate::stat::{Change, FileId, Stat};
-use backing::{Bytes, Kind, PlannedFault};
-use errno::ENOMEM;
+use backing::{Bytes, PlannedFault};
+use errno::{EINVAL, ENOMEM};
 use paths::{Name, Path};
+use payload::Kind;
 use std::alloc::{AllocError, Global};
 
 /// A disk in memory, which does what a disk is said to do. No file may be longer than `backing::MAX_FILE_LEN` (EFBIG). Calls of
@@ -24,9 +26,9 @@ pub struct MemoryDisk {
 impl MemoryDisk {
     ghost use Rattle.std.specs.Prelude.{ℕ, List, ◌≡◌, [], ◌∷◌, ◌++◌, Some, IfErr, IfOk, OnOk};
     ghost use Rattle.backing.specs.Tree.{Resolves, kind_of, size_of};
-    ghost use Rattle.backing.specs.declared.entries.Item.TheVariants.{File};
+    ghost use Rattle.backing.specs.declared.entries.Item.TheVariants.{File, Link};
     ghost use Rattle.disk.specs.Alone.{root_alone};
-    ghost use Rattle.disk.specs.Answers.{Looks, OpensDir, OpensFile, Makes, MakesDir, MakesItem, MakesNone};
+    ghost use Rattle.disk.specs.Answers.{Looks, OpensDir, OpensFile, ReadsLink, Makes, MakesDir, MakesLink, MakesItem, MakesNone};
     ghost use Rattle.disk.specs.Spots.{IsFailure, item_of, path_of, stands_in, tree_of};
 
     /// The root alone; no call fails.
@@ -60,6 +62,21 @@ impl MemoryDisk {
         self.put(path, Content::File(Bytes::from_vec(bytes)))
     }
 
+    /// Makes what is given, so also a link or what is special. It is no call: no failure is planned for it.
+    pub fn put(&mut self, path: &Path, content: Content) -> Result<(), DiskError>
+        ensures made { OnOk result (MakesItem (tree_of self.old.standing) (stands_in self.old.standing) path.now (item_of content) (tree_of self.new.standing) (stands_in self.new.standing)) }
+        ensures not { IfErr result (λ error. MakesNone (tree_of self.old.standing) (stands_in self.old.standing) path.now (item_of content) error (tree_of self.new.standing) (stands_in self.new.standing)) }
+    {
+        match self.standing.expect_led(path) {
+            Ok(()) => {}
+            Err(error) => return Err(error),
+        }
+        match self.standing.make(path, content) {
+            Ok(_) => Ok(()),
+            Err(error) => Err(error),
+        }
+    }
+
     /// Has that call fail, counted from 1 since the disk was made: before its work; or after it, and a call that changes nothing
     /// or writes before it. It replaces what was planned for that call.
     pub fn fail_at(&self, call: u64, fault: PlannedFault) -> Result<(), AllocError> {
@@ -89,21 +106,6 @@ impl MemoryDisk {
     /// Sets whether the disk keeps files open by itself.
     pub fn set_keeps_files(&self, keeps_files: bool) {
         self.schedule.set_keeps_files(keeps_files);
-    }
-
-    /// Puts what is given where nothing stands.
-    fn put(&mut self, path: &Path, content: Content) -> Result<(), DiskError>
-        ensures made { OnOk result (MakesItem (tree_of self.old.standing) (stands_in self.old.standing) path.now (item_of content) (tree_of self.new.standing) (stands_in self.new.standing)) }
-        ensures not { IfErr result (λ error. MakesNone (tree_of self.old.standing) (stands_in self.old.standing) path.now (item_of content) error (tree_of self.new.standing) (stands_in self.new.standing)) }
-    {
-        match self.standing.expect_led(path) {
-            Ok(()) => {}
-            Err(error) => return Err(error),
-        }
-        match self.standing.make(path, content) {
-            Ok(_) => Ok(()),
-            Err(error) => Err(error),
-        }
     }
 
     /// Counts a call that changes nothing: the path of the name in an open folder. The error says nothing.
@@ -137,7 +139,9 @@ impl MemoryDisk {
                 Content::Folder => Ok(MemoryHandle {
                     number: spot.number,
                 }),
-                Content::File(_) => Err(DiskError::NotFolder),
+                Content::File(_) | Content::Link(_) | Content::Special(_) => {
+                    Err(DiskError::NotFolder)
+                }
             },
             None => Err(DiskError::Absent),
         }
@@ -153,7 +157,18 @@ impl MemoryDisk {
                     number: spot.number,
                 }),
                 Content::Folder => Err(DiskError::IsFolder),
+                Content::Link(_) | Content::Special(_) => Err(DiskError::Failed(EINVAL)),
             },
+            None => Err(DiskError::Absent),
+        }
+    }
+
+    /// The text of the link at the path.
+    pub(crate) fn read_link_at(&self, path: &Path) -> Result<Vec<u8>, DiskError>
+        ensures { ReadsLink (tree_of self.now.standing) path.now result }
+    {
+        match self.standing.at(path) {
+            Some(spot) => read_link(self.alloc, &spot.content),
             None => Err(DiskError::Absent),
         }
     }
@@ -218,6 +233,21 @@ impl MemoryDisk {
                 self.set_permissions(number, Kind::Folder, permissions);
                 Ok(())
             }
+            Err(error) => Err(error),
+        }
+    }
+
+    /// Makes a link with that text at the path.
+    pub(crate) fn make_link_at(&mut self, path: &Path, text: &[u8]) -> Result<(), DiskError>
+        requires { Resolves (tree_of self.old.standing) path.now }
+        ensures { MakesLink (tree_of self.old.standing) (stands_in self.old.standing) path.now text.now result (tree_of self.new.standing) (stands_in self.new.standing) }
+    {
+        let Ok(text) = Vec::from_slice(self.alloc, text) else {
+            return Err(DiskError::Failed(ENOMEM));
+        };
+        let link = Content::Link(Bytes::from_vec(text));
+        match self.standing.make(path, link) {
+            Ok(_) => Ok(()),
             Err(error) => Err(error),
         }
     }

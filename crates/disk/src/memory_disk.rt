@@ -126,6 +126,13 @@ impl Disk for MemoryDisk {
             .read(file.number, buffer, offset, self.schedule.most())
     }
 
+    fn read_link(&self, dir: &MemoryHandle, name: &Name) -> Result<Vec<u8>, DiskError> {
+        match self.reach(dir, name) {
+            Ok(path) => self.read_link_at(&path),
+            Err(error) => Err(error),
+        }
+    }
+
     fn list(&self, dir: &MemoryHandle) -> Result<Vec<Name>, DiskError> {
         match self.schedule.pass() {
             Ok(()) => {}
@@ -216,6 +223,17 @@ impl Disk for MemoryDisk {
         };
         match self.standing.path_to(self.alloc, dir.number, name) {
             Ok(path) => ended(later, self.make_dir_at(&path, permissions)),
+            Err(error) => Err(error),
+        }
+    }
+
+    fn make_link(&mut self, dir: &MemoryHandle, name: &Name, text: &[u8]) -> Result<(), DiskError> {
+        let later = match self.schedule.begin() {
+            Ok(later) => later,
+            Err(error) => return Err(error),
+        };
+        match self.standing.path_to(self.alloc, dir.number, name) {
+            Ok(path) => ended(later, self.make_link_at(&path, text)),
             Err(error) => Err(error),
         }
     }

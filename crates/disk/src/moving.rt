@@ -64,18 +64,18 @@ fn expect_room(spots: &[Spot], from: &Path, to: &Path) -> Result<(), DiskError>
     }
 }
 
-/// Neither a file goes onto a folder nor a folder onto a file.
+/// A folder goes onto nothing but a folder, and nothing but a folder onto one.
 fn expect_kinds(source: &Content, target: &Content) -> Result<(), DiskError>
     ensures { FitsKinds source.now target.now result }
 {
     match source {
-        Content::File(_) => match target {
-            Content::File(_) => Ok(()),
-            Content::Folder => Err(DiskError::IsFolder),
-        },
         Content::Folder => match target {
-            Content::File(_) => Err(DiskError::NotFolder),
             Content::Folder => Ok(()),
+            Content::File(_) | Content::Link(_) | Content::Special(_) => Err(DiskError::NotFolder),
+        },
+        Content::File(_) | Content::Link(_) | Content::Special(_) => match target {
+            Content::Folder => Err(DiskError::IsFolder),
+            Content::File(_) | Content::Link(_) | Content::Special(_) => Ok(()),
         },
     }
 }

@@ -58,7 +58,7 @@ fn push(spots: &mut Vec<Spot>, spot: Spot) -> Result<(), DiskError>
     }
 }
 
-/// Removes the file.
+/// Removes what is no folder.
 pub fn remove_file(spots: &mut Vec<Spot>, path: &Path) -> Result<(), DiskError>
     requires lawful { IsLawful spots.old.items }
     requires below_root { path.now ≢ [] }
@@ -72,7 +72,7 @@ pub fn remove_file(spots: &mut Vec<Spot>, path: &Path) -> Result<(), DiskError>
     let spot = &spots[i];
     match spot.content {
         Content::Folder => return Err(DiskError::IsFolder),
-        Content::File(_) => {}
+        Content::File(_) | Content::Link(_) | Content::Special(_) => {}
     }
     let _gone = spots.remove(i);
     Ok(())
@@ -91,7 +91,9 @@ pub fn remove_dir(spots: &mut Vec<Spot>, path: &Path) -> Result<(), DiskError>
     };
     let spot = &spots[i];
     match spot.content {
-        Content::File(_) => return Err(DiskError::NotFolder),
+        Content::File(_) | Content::Link(_) | Content::Special(_) => {
+            return Err(DiskError::NotFolder);
+        }
         Content::Folder => {}
     }
     if has_names(spots, path) {

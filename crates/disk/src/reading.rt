@@ -1,10 +1,13 @@
-//! The bytes of a file in memory.
+//! The bytes of a file in memory, and the text of a link.
 
 ghost use Rattle.std.specs.Prelude.{◌≡◌, ◌<◌, ◌≤◌, IfErr, IfOk, length, take, drop};
-ghost use Rattle.disk.specs.Spots.{item_of, HasPart};
+ghost use Rattle.backing.specs.declared.entries.Item.TheVariants.{Link};
+ghost use Rattle.disk.specs.Spots.{item_of, HasPart, IsFailure};
 
 use crate::error::DiskError;
 use crate::spot::Content;
+use errno::{EINVAL, ENOMEM};
+use std::alloc::Global;
 
 /// Reads so many bytes at most, or one where that is none.
 pub fn read(
@@ -20,6 +23,21 @@ pub fn read(
     match content {
         Content::Folder => Err(DiskError::IsFolder),
         Content::File(bytes) => Ok(read_part(bytes.as_slice(), buffer, offset, most)),
+        Content::Link(_) | Content::Special(_) => Err(DiskError::Failed(EINVAL)),
+    }
+}
+
+/// The text of the link, else EINVAL.
+pub fn read_link(alloc: Global, content: &Content) -> Result<Vec<u8>, DiskError>
+    ensures ok { IfOk result (λ text. item_of content.now ≡ Link text.items) }
+    ensures err { IfErr result IsFailure }
+{
+    match content {
+        Content::Link(text) => match Vec::from_slice(alloc, text.as_slice()) {
+            Ok(text) => Ok(text),
+            Err(_) => Err(DiskError::Failed(ENOMEM)),
+        },
+        Content::Folder | Content::File(_) | Content::Special(_) => Err(DiskError::Failed(EINVAL)),
     }
 }
 

@@ -2,14 +2,18 @@
 
 ghost use Rattle.std.specs.Prelude.{◌≡◌};
 
-use backing::{Bytes, Kind};
+use backing::Bytes;
 use paths::Path;
+use payload::{Kind, Special};
 
 /// What stands at a path.
 #[derive(Drop)]
 pub enum Content {
     Folder,
     File(Bytes),
+    /// A symbolic link, and its text.
+    Link(Bytes),
+    Special(Special),
 }
 
 impl Content {
@@ -22,16 +26,18 @@ impl Content {
         match self {
             Content::Folder => Kind::Folder,
             Content::File(_) => Kind::File,
+            Content::Link(_) => Kind::Link,
+            Content::Special(special) => Kind::Special(*special),
         }
     }
 
-    /// In bytes, 0 for a folder.
+    /// In bytes: of a link its text, and 0 for what has neither.
     pub fn size(&self) -> usize
         ensures { result ≡ size_of (item_of self.now) }
     {
         match self {
-            Content::Folder => 0,
-            Content::File(bytes) => bytes.len(),
+            Content::Folder | Content::Special(_) => 0,
+            Content::File(bytes) | Content::Link(bytes) => bytes.len(),
         }
     }
 }

@@ -100,7 +100,9 @@ impl Standing {
         };
         let spot = &self.list[i];
         match spot.content {
-            Content::File(_) => return Err(DiskError::Failed(ENOTDIR)),
+            Content::File(_) | Content::Link(_) | Content::Special(_) => {
+                return Err(DiskError::Failed(ENOTDIR));
+            }
             Content::Folder => {}
         }
         match joined(alloc, &spot.path, name) {
@@ -135,7 +137,9 @@ impl Standing {
         };
         let spot = &self.list[i];
         match spot.content {
-            Content::File(_) => return Err(DiskError::NotFolder),
+            Content::File(_) | Content::Link(_) | Content::Special(_) => {
+                return Err(DiskError::NotFolder);
+            }
             Content::Folder => {}
         }
         match names_in(alloc, &self.list, &spot.path) {
@@ -163,7 +167,7 @@ impl Standing {
         }
     }
 
-    /// Removes the file.
+    /// Removes what is no folder.
     pub fn remove_file(&mut self, path: &Path) -> Result<(), DiskError>
         requires { path.now ≢ [] }
         ensures { Removes (tree_of self.old) (stands_in self.old) path.now result (tree_of self.new) (stands_in self.new) }
@@ -243,6 +247,8 @@ fn expect_folder(content: &Content) -> Result<(), DiskError>
 {
     match content {
         Content::Folder => Ok(()),
-        Content::File(_) => Err(DiskError::Failed(ENOTDIR)),
+        Content::File(_) | Content::Link(_) | Content::Special(_) => {
+            Err(DiskError::Failed(ENOTDIR))
+        }
     }
 }

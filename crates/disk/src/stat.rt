@@ -3,7 +3,8 @@
 ghost use Rattle.std.specs.Prelude.{◌↔◌, ◌≡◌, IsTrue};
 ghost use Rattle.disk.specs.Opened.{serves};
 
-use backing::{Details, Kind, NewTime};
+use backing::NewTime;
+use payload::{Details, Kind};
 
 /// Which file or folder it is, as the system numbers them.
 #[derive(Clone, Copy, Debug, PartialEq, Eq)]
@@ -24,7 +25,7 @@ impl FileId {
 /// What one look tells of what stands there.
 #[derive(Clone, Copy, Debug, PartialEq, Eq)]
 pub struct Stat {
-    /// None where it is neither a file nor a folder: a symbolic link, a pipe, a socket or a device.
+    /// None where the system does not show what stands there.
     pub kind: Option<Kind>,
     pub id: FileId,
     /// In bytes, 0 for a folder.

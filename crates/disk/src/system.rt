@@ -1,14 +1,14 @@
 //! The calls of a system of which nothing is known, as the real one.
 
-ghost use Rattle.disk.specs.Names.{IsLawfulName};
+ghost use Rattle.disk.specs.Names.{IsLawfulName, IsLinkText};
 
 use crate::error::DiskError;
 use crate::stat::{Access, Change, Stat};
 use paths::Name;
 use std::alloc::Global;
 
-/// The calls of `Disk`, by the same names, of which nothing is said. Each name that is handed to them is lawful, and neither the
-/// buffer of `read_at` nor the bytes of `write_at` are empty.
+/// The calls of `Disk`, by the same names, of which nothing is said. Each name that is handed to them is lawful, each text is one
+/// that a link can have, and neither the buffer of `read_at` nor the bytes of `write_at` are empty.
 pub trait System {
     /// A file or folder that is open for as long as the value is there.
     type Handle: Drop;
@@ -56,6 +56,9 @@ pub trait System {
         offset: u64,
     ) -> Result<usize, DiskError>;
 
+    fn read_link(&self, dir: &Self::Handle, name: &Name) -> Result<Vec<u8>, DiskError>
+        requires { IsLawfulName name.now };
+
     fn list(&self, dir: &Self::Handle) -> Result<Vec<Name>, DiskError>;
 
     fn sync(&self, handle: &Self::Handle) -> Result<(), DiskError>;
@@ -90,6 +93,10 @@ pub trait System {
         permissions: Option<u32>,
     ) -> Result<(), DiskError>
         requires { IsLawfulName name.now };
+
+    fn make_link(&mut self, dir: &Self::Handle, name: &Name, text: &[u8]) -> Result<(), DiskError>
+        requires name { IsLawfulName name.now }
+        requires text { IsLinkText text.now };
 
     fn remove_file(&mut self, dir: &Self::Handle, name: &Name) -> Result<(), DiskError>
         requires { IsLawfulName name.now };

@@ -124,6 +124,10 @@ impl<S: System + Drop> Disk for Unknown<S> {
         within(read, buffer.len())
     }
 
+    fn read_link(&self, dir: &Self::Handle, name: &Name) -> Result<Vec<u8>, DiskError> {
+        self.system.read_link(dir, name)
+    }
+
     fn list(&self, dir: &Self::Handle) -> Result<Vec<Name>, DiskError> {
         self.system.list(dir)
     }
@@ -170,6 +174,10 @@ impl<S: System + Drop> Disk for Unknown<S> {
         permissions: Option<u32>,
     ) -> Result<(), DiskError> {
         self.system.make_dir(dir, name, permissions)
+    }
+
+    fn make_link(&mut self, dir: &Self::Handle, name: &Name, text: &[u8]) -> Result<(), DiskError> {
+        self.system.make_link(dir, name, text)
     }
 
     fn remove_file(&mut self, dir: &Self::Handle, name: &Name) -> Result<(), DiskError> {

@@ -57,7 +57,7 @@ fn write_content(content: &mut Content, piece: &[u8], offset: u64) -> Result<(),
         return Err(DiskError::Failed(EFBIG));
     }
     match content {
-        Content::Folder => Err(DiskError::Failed(EBADF)),
+        Content::Folder | Content::Link(_) | Content::Special(_) => Err(DiskError::Failed(EBADF)),
         Content::File(bytes) => match bytes.write(offset as usize, piece) {
             Ok(()) => Ok(()),
             Err(_) => Err(DiskError::Failed(ENOMEM)),
@@ -102,7 +102,7 @@ fn cut_content(content: &mut Content, size: u64) -> Result<(), DiskError>
         return Err(DiskError::Failed(EFBIG));
     }
     match content {
-        Content::Folder => Err(DiskError::Failed(EINVAL)),
+        Content::Folder | Content::Link(_) | Content::Special(_) => Err(DiskError::Failed(EINVAL)),
         Content::File(bytes) => match bytes.set_len(size as usize) {
             Ok(()) => Ok(()),
             Err(_) => Err(DiskError::Failed(ENOMEM)),

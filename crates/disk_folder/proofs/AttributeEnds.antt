@@ -6,7 +6,7 @@ use Rattle.path_cache.specs.declared.places.Place.{Place}
 use Rattle.path_cache.specs.Cache.{IsAt}
 use Rattle.backing.specs.declared.call.Answer.{Answer}
 use Rattle.backing.specs.declared.call.Answer.TheVariants.{Done}
-use Rattle.backing.specs.declared.call.Kind.{Kind}
+use Rattle.payload.specs.declared.attributes.Kind.{Kind}
 use Rattle.backing.specs.declared.entries.Item.{Item}
 use Rattle.backing.specs.declared.entries.Item.TheVariants.{Folder}
 use Rattle.backing.specs.Checks.{present_tests}

@@ -1,15 +1,15 @@
 -- How reads and writes end, and what is open then.
-use Rattle.std.proofs.Common.{ℕ, ℤ, Result, Ok, Err, IfOk, IfErr, ◌≡◌, ◌<◌, ◌≤◌, List, [], Option, Some, length, take, refl, sym, ap, ◌∙◌, subst, inl, inr, arith}
+use Rattle.std.proofs.Common.{ℕ, ℤ, Result, Ok, Err, IfOk, IfErr, ◌≡◌, ◌<◌, List, [], Option, Some, length, take, refl, sym, ap, ◌∙◌, subst, inl, inr, arith}
 use Rattle.std.specs.Option.{option_map}
-use Rattle.std.proofs.lemmas.List.{take_all, length-drop, length-take, nil_from_length}
+use Rattle.std.proofs.lemmas.List.{take_all}
 use Rattle.paths.specs.Prefixes.{Names}
 use Rattle.backing.specs.declared.call.Answer.{Answer}
 use Rattle.backing.specs.declared.call.Answer.TheVariants.{Bytes, Done, Wrote}
-use Rattle.backing.specs.declared.call.Kind.TheVariants as kinds
+use Rattle.payload.specs.declared.attributes.Kind.TheVariants as kinds
 use Rattle.backing.specs.declared.entries.Item.{Item}
 use Rattle.backing.specs.declared.entries.Item.TheVariants.{File}
 use Rattle.backing.specs.Files.{read, resized, written}
-use Rattle.backing.specs.Tree.{Tree, IsTree, IsFolder, kind_of, size_of, with_item}
+use Rattle.backing.specs.Tree.{Tree, IsTree, IsFile, kind_of, with_item}
 use Rattle.backing.specs.Calls.{AskRead, AskSetLen, AskWrite, PassesAll}
 use Rattle.backing.specs.Checks.{file_tests}
 use Rattle.backing.proofs.Lawful.{some_item}
@@ -19,26 +19,24 @@ use Rattle.backing.proofs.WriteLemmas.{does_write}
 use Rattle.disk.specs.Answers.{AllStay, Cuts, CutsFile, Stays}
 use Rattle.disk.specs.declared.error.DiskError.{DiskError}
 use Rattle.disk.specs.declared.error.DiskError.TheVariants.{Absent, Exists, NotFolder, IsFolder as IsOne, NotEmpty, Failed as Lost}
-use Rattle.disk_folder.specs.declared.look.Seen.{Seen}
 use Rattle.disk_folder.specs.declared.open_cache.OpenCache.{OpenCache}
 use Rattle.disk_folder.specs.declared.trouble.Trouble.{Trouble}
 use Rattle.disk_folder.specs.declared.trouble.Trouble.TheVariants.{Refused, Failed}
 use Rattle.disk_folder.specs.Ends.{Ends, Fails, Before, Within, After}
 use Rattle.disk_folder.specs.Parts.{WroteSoFar}
-use Rattle.disk_folder.specs.Seen.{IsSeen}
 use Rattle.disk_folder.specs.Standing.{AllStand}
 use Rattle.disk_folder.specs.Stays.{StaysOpen}
 use Rattle.disk_folder.specs.Troubles.{IsFailure}
 use Rattle.disk_folder.proofs.WayLemmas.{leads}
 
-pub no_folder : (o : Option Item) (bytes : List ℕ) → o ≡ Some (File bytes) → IsFolder o → ⊥
-no_folder o bytes e h = subst (λ (x : Option Item). IsFolder x) e h
+file_yes : (o : Option Item) (bytes : List ℕ) → o ≡ Some (File bytes) → IsFile o
+file_yes o bytes e = subst (λ (x : Option Item). IsFile x) (sym e) tt
 
 -- a file is found
 pub file_passes : (at : Tree) (p : Names) (bytes : List ℕ) → IsTree at → at p ≡ Some (File bytes) → PassesAll at (file_tests p)
 file_passes at p bytes t file =
     let some = some_item (at p) (File bytes) file in
-    (leads at p t some, (some, (no_folder (at p) bytes file, tt)))
+    (leads at p t some, (some, (file_yes (at p) bytes file, tt)))
 
 -- what a file's bytes become is of the same kind
 kind_written : (at : Tree) (p : Names) (before after : List ℕ) (q : Names) → at p ≡ Some (File before) → option_map kind_of (with_item at p (File after) q) ≡ option_map kind_of (at q)

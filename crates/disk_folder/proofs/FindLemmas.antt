@@ -1,7 +1,7 @@
 -- A file that the system keeps open.
 use Rattle.std.proofs.Common.{Ok, ◌≡◌, refl}
 use Rattle.paths.specs.Prefixes.{Names}
-use Rattle.backing.specs.declared.call.Kind.TheVariants as kinds
+use Rattle.payload.specs.declared.attributes.Kind.TheVariants as kinds
 use Rattle.backing.specs.Tree.{Tree, IsFile}
 use Rattle.disk_folder.specs.declared.open_cache.OpenCache.{OpenCache}
 use Rattle.disk_folder.specs.declared.opened.Held.{Held}

@@ -8,6 +8,7 @@ pub mod PartLemmas
 pub mod FileEnds
 pub mod KeptCases
 pub mod MakeEnds
+pub mod LinkEnds
 pub mod RemoveEnds
 pub mod MoveEnds
 pub mod NewEnds

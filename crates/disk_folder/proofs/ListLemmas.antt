@@ -8,13 +8,14 @@ use Rattle.std.proofs.lemmas.List.Sorted.{All-permutation}
 use Rattle.std.proofs.lemmas.List.Elements.{All-from_recursion}
 use Rattle.std.proofs.lemmas.List.{take-append-le}
 use Rattle.std.proofs.lemmas.List.{take_more, map-append}
+use Rattle.errno.specs.declared.TheConstants.{ENOTDIR}
 use Rattle.paths.specs.Prefixes.{Name, Names, is_name}
 use Rattle.paths.proofs.PrefixLemmas.{is_name-same, is_name-true}
 use Rattle.backing.specs.declared.entries.Item.{Item}
 use Rattle.backing.specs.declared.call.Answer.{Answer}
 use Rattle.backing.specs.declared.call.Answer.TheVariants.{Names as NamesAre}
-use Rattle.backing.specs.declared.entries.Item.TheVariants.{Folder, File}
-use Rattle.backing.specs.Tree.{Tree, IsTree, IsFile, IsFolder, Blocks, Resolves, Stops, kind_of}
+use Rattle.backing.specs.declared.entries.Item.TheVariants.{Folder, File, Link, Special}
+use Rattle.backing.specs.Tree.{Tree, IsTree, IsFolder, IsOther, Blocks, Resolves, Stops, kind_of}
 use Rattle.backing.specs.Checks.{folder_tests}
 use Rattle.backing.proofs.Lawful.{some_item}
 use Rattle.backing.specs.Calls.{AskList, Refuses, Lists, EachOnce, kind_in}
@@ -24,10 +25,9 @@ use Rattle.disk_folder.specs.declared.listing.SeenName.{SeenName}
 use Rattle.disk_folder.specs.declared.trouble.Trouble.{Trouble}
 use Rattle.disk_folder.specs.declared.trouble.Trouble.TheVariants.{Refused, Failed}
 use Rattle.disk_folder.specs.Ends.{Ends, Before, IsRefused}
-use Rattle.disk_folder.specs.Suits.{Suits}
 use Rattle.disk_folder.specs.Troubles.{IsBarred, IsFailure, reason_errno}
 use Rattle.disk_folder.specs.Seen.{IsSeen}
-use Rattle.disk_folder.proofs.WayLemmas.{file_no_folder, folder_yes, leads, take_whole}
+use Rattle.disk_folder.proofs.WayLemmas.{folder_yes, leads, take_whole}
 use Rattle.disk_folder.specs.Listed.{AreSeen, EachSeen, IsListing, IsNamed, children_of, with_one}
 
 abbrev name_of : SeenName → Name
@@ -115,7 +115,7 @@ list_ends at path seen (Err (Refused reason)) t it ok err = absurd err
 list_ends at path seen (Err (Failed errno)) t it ok err = Before refl
 list_ends at path seen (Ok answer) t it ok err =
     let some = some_item (at path) Folder it.folder in
-    ((leads at path t some, (some, ((λ file. file_no_folder (at path) file (folder_yes (at path) it.folder)), tt))), ((children_of seen, lists_seen at path it.names seen it.lists it.are, ok), refl))
+    ((leads at path t some, (some, (folder_yes (at path) it.folder, tt))), ((children_of seen, lists_seen at path it.names seen it.lists it.are, ok), refl))
 
 pub listing_of : {A : Type 0} (at : Tree) (path : Names) (result : Result A Trouble) (items : A → List SeenName) → at path ≡ Some Folder → IfOk result (λ seen. (names : List Name) × ListsNames at path names × AreSeen at path names (items seen)) → IfOk result (λ seen. IsListing at path (items seen))
 listing_of at path (Ok seen) items folder it = record { folder = folder; names = it.0; lists = it.1; are = it.2 }
@@ -140,12 +140,15 @@ barred at path errno stops = elim (cases_eq stops.depth (length path)) [
       })
 ]
   where
+    no_way : (at : Tree) (path : Names) (item : Item) (errno : ℤ) → at path ≡ Some item → IsOther (Some item) → Resolves at path → errno ≡ ENOTDIR → Refuses at (folder_tests path) errno
+    no_way at path item errno is other down why = inr (down, inr (some_item (at path) item is, inl (subst (λ (o : Option Item). IsOther o) (sym is) other, why)))
+
     blocked : (at : Tree) (path : Names) (o : Option Item) (errno : ℤ) → at path ≡ o → Resolves at path → Blocks o errno → Refuses at (folder_tests path) errno
     blocked at path None errno is down why = inr (down, inl (is, why))
     blocked at path (Some Folder) errno is down why = absurd why
-    blocked at path (Some (File bytes)) errno is down why =
-        let file : IsFile (at path) = subst (λ (o : Option Item). IsFile o) (sym is) tt in
-        inr (down, inr (some_item (at path) (File bytes) is, inl (file, why)))
+    blocked at path (Some (File bytes)) errno is down why = no_way at path (File bytes) errno is tt down why
+    blocked at path (Some (Link text)) errno is down why = no_way at path (Link text) errno is tt down why
+    blocked at path (Some (Special special)) errno is down why = no_way at path (Special special) errno is tt down why
 
 pub barred_refused : (at : Tree) (path : Names) (trouble : Trouble) → IsBarred at path trouble → IsRefused at (folder_tests path) trouble
 barred_refused at path (Failed errno) bars = tt

@@ -1,14 +1,14 @@
--- How calls end that make files and folders, and what is open then.
+-- How calls end that make something, and what is open then.
 use Rattle.std.proofs.Common.{ℕ, ℤ, Ok, Err, ◌≡◌, List, [], ◌∷◌, ◌++◌, Option, Some, None, refl, sym, ap, ◌∙◌, subst, inl, inr}
 use Rattle.std.specs.Option.{option_map}
 use Rattle.paths.specs.Prefixes.{Name, Names}
 use Rattle.backing.specs.declared.call.Answer.TheVariants.{Done}
-use Rattle.backing.specs.declared.call.Kind.{Kind}
-use Rattle.backing.specs.declared.call.Kind.TheVariants as kinds
+use Rattle.payload.specs.declared.attributes.Kind.{Kind}
+use Rattle.payload.specs.declared.attributes.Kind.TheVariants as kinds
 use Rattle.backing.specs.declared.entries.Item.{Item}
-use Rattle.backing.specs.declared.entries.Item.TheVariants.{Folder, File}
+use Rattle.backing.specs.declared.entries.Item.TheVariants.{Folder, File, Link}
 use Rattle.backing.specs.Tree.{Tree, IsTree, Resolves, kind_of}
-use Rattle.backing.specs.Calls.{Asked, AskMake, AskMakeDir, Refuses, Test, tests_of}
+use Rattle.backing.specs.Calls.{Asked, AskMake, AskMakeDir, AskMakeLink, Refuses, Test, tests_of}
 use Rattle.backing.specs.Checks.{free_tests}
 use Rattle.backing.proofs.Looking.{with_other, with_same}
 use Rattle.disk.specs.Answers.{MakesItem, MakesNone}
@@ -17,7 +17,7 @@ use Rattle.disk.specs.declared.error.DiskError.TheVariants.{Absent, Exists, NotF
 use Rattle.disk_folder.specs.declared.open_cache.OpenCache.{OpenCache}
 use Rattle.disk_folder.specs.declared.trouble.Trouble.{Trouble}
 use Rattle.disk_folder.specs.declared.trouble.Trouble.TheVariants.{Refused, Failed}
-use Rattle.disk_folder.specs.declared.trouble.Reason.TheVariants.{Root, Nothing, Taken, NoFolder, Folder as IsOne, Below, Names as HasNames}
+use Rattle.disk_folder.specs.declared.trouble.Reason.TheVariants.{Root, Nothing, Taken, NoFolder, NoFile, NoLink, Folder as IsOne, Below, Names as HasNames}
 use Rattle.disk_folder.specs.Changes.{IsTaken, IsWhyNotMade}
 use Rattle.disk_folder.specs.Ends.{Ends, Before, After}
 use Rattle.disk_folder.specs.Standing.{AllStand, Keeps}
@@ -34,6 +34,9 @@ made_ends at at' olds news q permissions down made = ((down, (made.free, tt)), (
 made_dir_ends : {H : Type 0} (at at' : Tree) (olds news : H → Names → Type 0) (q : Names) (permissions : Option ℕ) → Resolves at q → MakesItem at olds q Folder at' news → Ends at (AskMakeDir q permissions) (Ok Done) at'
 made_dir_ends at at' olds news q permissions down made = ((down, (made.free, tt)), (refl, made.tree))
 
+made_link_ends : {H : Type 0} (at at' : Tree) (olds news : H → Names → Type 0) (q : Names) (text : List ℕ) → Resolves at q → MakesItem at olds q (Link text) at' news → Ends at (AskMakeLink q text) (Ok Done) at'
+made_link_ends at at' olds news q text down made = ((down, (made.free, tt)), (refl, made.tree))
+
 -- what stands at q refuses what is to be made there
 taken_ends : {H : Type 0} (at at' : Tree) (olds news : H → Names → Type 0) (q : Names) (item : Item) (call : Asked) (trouble : Trouble) → tests_of None call ≡ free_tests q → Resolves at q → MakesNone at olds q item Exists at' news → IsTaken trouble → Ends at call (Err trouble) at'
 taken_ends at at' olds news q item call (Failed errno) tests down none why = Before none.1.tree
@@ -42,6 +45,8 @@ taken_ends at at' olds news q item call (Refused Root) tests down none why = abs
 taken_ends at at' olds news q item call (Refused Nothing) tests down none why = absurd why
 taken_ends at at' olds news q item call (Refused NoFolder) tests down none why = absurd why
 taken_ends at at' olds news q item call (Refused IsOne) tests down none why = absurd why
+taken_ends at at' olds news q item call (Refused NoFile) tests down none why = absurd why
+taken_ends at at' olds news q item call (Refused NoLink) tests down none why = absurd why
 taken_ends at at' olds news q item call (Refused Below) tests down none why = absurd why
 taken_ends at at' olds news q item call (Refused HasNames) tests down none why = absurd why
 
@@ -99,6 +104,9 @@ make_ends at at' olds news up name permissions t folder made = made_ends at at' 
 pub make_dir_ends : {H : Type 0} (at at' : Tree) (olds news : H → Names → Type 0) (up : Names) (name : Name) (permissions : Option ℕ) → IsTree at → at up ≡ Some Folder → MakesItem at olds (up ++ name ∷ []) Folder at' news → Ends at (AskMakeDir (up ++ name ∷ []) permissions) (Ok Done) at'
 make_dir_ends at at' olds news up name permissions t folder made = made_dir_ends at at' olds news (up ++ name ∷ []) permissions (leads_below at up name t folder) made
 
+pub make_link_ends : {H : Type 0} (at at' : Tree) (olds news : H → Names → Type 0) (up : Names) (name : Name) (text : List ℕ) → IsTree at → at up ≡ Some Folder → MakesItem at olds (up ++ name ∷ []) (Link text) at' news → Ends at (AskMakeLink (up ++ name ∷ []) text) (Ok Done) at'
+make_link_ends at at' olds news up name text t folder made = made_link_ends at at' olds news (up ++ name ∷ []) text (leads_below at up name t folder) made
+
 pub no_file_made : {H : Type 0} (at at' : Tree) (olds news : H → Names → Type 0) (up : Names) (name : Name) (permissions : Option ℕ) (error : DiskError) (trouble : Trouble) → IsTree at → at up ≡ Some Folder → MakesNone at olds (up ++ name ∷ []) (File []) error at' news → IsWhyNotMade error trouble → Ends at (AskMake (up ++ name ∷ []) permissions) (Err trouble) at'
 no_file_made at at' olds news up name permissions error trouble t folder none why =
     let q = up ++ name ∷ [] in
@@ -110,6 +118,12 @@ no_dir_made at at' olds news up name permissions error trouble t folder none why
     let q = up ++ name ∷ [] in
     let down = leads_below at up name t folder in
     not_made_ends at at' olds news q Folder (AskMakeDir q permissions) error trouble refl down (λ made. made_dir_ends at at' olds news q permissions down made) none why
+
+pub no_link_made : {H : Type 0} (at at' : Tree) (olds news : H → Names → Type 0) (up : Names) (name : Name) (text : List ℕ) (error : DiskError) (trouble : Trouble) → IsTree at → at up ≡ Some Folder → MakesNone at olds (up ++ name ∷ []) (Link text) error at' news → IsWhyNotMade error trouble → Ends at (AskMakeLink (up ++ name ∷ []) text) (Err trouble) at'
+no_link_made at at' olds news up name text error trouble t folder none why =
+    let q = up ++ name ∷ [] in
+    let down = leads_below at up name t folder in
+    not_made_ends at at' olds news q (Link text) (AskMakeLink q text) error trouble refl down (λ made. made_link_ends at at' olds news q text down made) none why
 
 -- what was made and is kept stands
 pub stand_kept : {H : Type 0} (at : Tree) (stands : H → Names → Type 0) (old new : OpenCache H) (q : Names) (opened : Open H) (handle : H) → Keeps old q opened new → (opened.kind ≡ kinds.File) × (opened.handle ≡ handle) → stands handle q → option_map kind_of (at q) ≡ Some kinds.File → AllStand at stands old → AllStand at stands new

@@ -6,14 +6,13 @@ use Rattle.std.proofs.lemmas.Bool.{cond-true, cond-false, true≢false}
 use Rattle.paths.specs.Prefixes.{Name, Names, is_name, is_prefix}
 use Rattle.paths.proofs.PrefixLemmas.{is_name-true, is_name-yes, is_prefix-append, drop-append}
 use Rattle.backing.specs.declared.call.Answer.TheVariants.{Done}
-use Rattle.backing.specs.declared.call.Answer.{Answer}
 use Rattle.disk_folder.specs.declared.opened.Entry.{Entry}
 use Rattle.disk_folder.proofs.StandLemmas.{folder_keeps_all, held_keeps_all}
 use Rattle.backing.specs.declared.entries.Item.{Item}
 use Rattle.backing.specs.declared.entries.Item.TheVariants.{Folder}
 use Rattle.backing.specs.Tree.{Tree, IsTree, Resolves, is_path, kind_of, moved}
 use Rattle.backing.specs.Calls.{AskRename, PassesAll, Refuses, tests_of, unless}
-use Rattle.backing.specs.Checks.{present_tests, room_tests}
+use Rattle.backing.specs.Checks.{room_tests}
 use Rattle.backing.proofs.PathLemmas.{is_path-no, is_path-yes}
 use Rattle.backing.proofs.Relocating.{moved_below, moved_else, prefix_cases, prefix_of_root}
 use Rattle.disk.specs.Answers.{AreApart, Moves, Renames, Stays, new_path}
@@ -25,13 +24,13 @@ use Rattle.disk_folder.specs.declared.opened.Open.{Open}
 use Rattle.disk_folder.specs.declared.open_cache.OpenCache.{OpenCache}
 use Rattle.disk_folder.specs.declared.trouble.Trouble.{Trouble}
 use Rattle.disk_folder.specs.declared.trouble.Trouble.TheVariants.{Refused, Failed}
-use Rattle.disk_folder.specs.declared.trouble.Reason.TheVariants.{Root, Nothing, Taken, NoFolder, Folder as IsOne, Below, Names as HasNames}
+use Rattle.disk_folder.specs.declared.trouble.Reason.TheVariants.{Root, Nothing, Taken, NoFolder, NoFile, NoLink, Folder as IsOne, Below, Names as HasNames}
 use Rattle.disk_folder.specs.Changes.{IsFull}
-use Rattle.disk_folder.specs.Ends.{Ends, Before, After, IsRefused}
+use Rattle.disk_folder.specs.Ends.{Ends, Before, After}
 use Rattle.disk_folder.specs.Moving.{Follows, IsTold, IsWhyNotMoved}
 use Rattle.disk_folder.specs.Standing.{AllStand, IsEntryOf, IsStanding, KeepsAll, StandsIn}
-use Rattle.disk_folder.specs.Troubles.{IsFailure, IsStopped, reason_errno}
-use Rattle.disk_folder.proofs.WayLemmas.{file_no_folder, leads, leads_below}
+use Rattle.disk_folder.specs.Troubles.{IsStopped, reason_errno}
+use Rattle.disk_folder.proofs.WayLemmas.{other_no_folder, leads, leads_below}
 
 -- what is below s is not below t, if neither leads to the other
 apart_more : (y x : Name) (t s more : Names) (b : Bool) → is_name y x ≡ b → is_prefix (x ∷ s) (y ∷ t) ≡ false → is_prefix (y ∷ t) (x ∷ s) ≡ false → (is_prefix s t ≡ false → is_prefix t s ≡ false → is_prefix t (s ++ more) ≡ false) → is_prefix (y ∷ t) ((x ∷ s) ++ more) ≡ false
@@ -125,7 +124,7 @@ refuse_room at s t errno tree low_s low_t some other refuses =
 moved_done : {H : Type 0} (at at' : Tree) (olds news : H → Names → Type 0) (s t : Names) → IsTree at → (s ≡ [] → ⊥) → (t ≡ [] → ⊥) → Resolves at t → AreApart s t → Moves at olds s t at' news → Ends at (AskRename s t) (Ok Done) at'
 moved_done at at' olds news s t tree low_s low_t down apart moves =
     let other = is_path-no s t (other_path s t apart.not_into) in
-    let room : PassesAll at (room_tests s t) = (apart.not_into, (apart.not_over, (down, (moves.no_file_on_folder, (moves.no_folder_on_file, (moves.bare, tt)))))) in
+    let room : PassesAll at (room_tests s t) = (apart.not_into, (apart.not_over, (down, (moves.no_other_on_folder, (moves.no_folder_on_other, (moves.bare, tt)))))) in
     ((low_s, (low_t, (leads at s tree moves.source, (moves.source, subst (λ (b : Bool). PassesAll at (unless b (room_tests s t))) (sym other) room)))), (refl, moves.tree ∙ sym (cond-false (is_path s t) at (moved at s t) other)))
 
 pub moved_ends : {H : Type 0} (at at' : Tree) (olds news : H → Names → Type 0) (up : Names) (name : Name) (up' : Names) (name' : Name) → IsTree at → at up' ≡ Some Folder → AreApart (up ++ name ∷ []) (up' ++ name' ∷ []) → Moves at olds (up ++ name ∷ []) (up' ++ name' ∷ []) at' news → Ends at (AskRename (up ++ name ∷ []) (up' ++ name' ∷ [])) (Ok Done) at'
@@ -136,12 +135,14 @@ moved_ends at at' olds news up name up' name' tree folder apart moves =
 full_kept : {H : Type 0} (at at' : Tree) (olds news : H → Names → Type 0) (s t : Names) (trouble : Trouble) → IsTree at → (s ≡ [] → ⊥) → (t ≡ [] → ⊥) → Resolves at t → IsSome (at s) → AreApart s t → Renames at olds s t (Err NotEmpty) at' news → IsFull trouble → Ends at (AskRename s t) (Err trouble) at'
 full_kept at at' olds news s t (Failed errno) tree low_s low_t down some apart none why = Before none.3.tree
 full_kept at at' olds news s t (Refused HasNames) tree low_s low_t down some apart none why =
-    (refuse_room at s t (reason_errno HasNames) tree low_s low_t some (is_path-no s t (other_path s t apart.not_into)) (inr (apart.not_into, inr (apart.not_over, inr (down, inr ((λ f d. file_no_folder (at s) f none.0), inr ((λ d f. file_no_folder (at t) f none.1), inl (none.2, refl))))))), none.3.tree)
+    (refuse_room at s t (reason_errno HasNames) tree low_s low_t some (is_path-no s t (other_path s t apart.not_into)) (inr (apart.not_into, inr (apart.not_over, inr (down, inr ((λ f d. other_no_folder (at s) f none.0), inr ((λ d f. other_no_folder (at t) f none.1), inl (none.2, refl))))))), none.3.tree)
 full_kept at at' olds news s t (Refused Root) tree low_s low_t down some apart none why = absurd why
 full_kept at at' olds news s t (Refused Nothing) tree low_s low_t down some apart none why = absurd why
 full_kept at at' olds news s t (Refused Taken) tree low_s low_t down some apart none why = absurd why
 full_kept at at' olds news s t (Refused NoFolder) tree low_s low_t down some apart none why = absurd why
 full_kept at at' olds news s t (Refused IsOne) tree low_s low_t down some apart none why = absurd why
+full_kept at at' olds news s t (Refused NoFile) tree low_s low_t down some apart none why = absurd why
+full_kept at at' olds news s t (Refused NoLink) tree low_s low_t down some apart none why = absurd why
 full_kept at at' olds news s t (Refused Below) tree low_s low_t down some apart none why = absurd why
 
 -- it is not moved
@@ -149,7 +150,7 @@ not_moved : {H : Type 0} (at at' : Tree) (olds news : H → Names → Type 0) (s
 not_moved at at' olds news s t IsFolder trouble tree low_s low_t down some apart none why =
     subst (λ (x : Trouble). Ends at (AskRename s t) (Err x) at') (sym why) (refuse_room at s t (reason_errno IsOne) tree low_s low_t some (is_path-no s t (other_path s t apart.not_into)) (inr (apart.not_into, inr (apart.not_over, inr (down, inl (none.0, none.1, refl))))), none.2.tree)
 not_moved at at' olds news s t NotFolder trouble tree low_s low_t down some apart none why =
-    subst (λ (x : Trouble). Ends at (AskRename s t) (Err x) at') (sym why) (refuse_room at s t (reason_errno NoFolder) tree low_s low_t some (is_path-no s t (other_path s t apart.not_into)) (inr (apart.not_into, inr (apart.not_over, inr (down, inr ((λ f d. file_no_folder (at s) f none.0), inl (none.0, none.1, refl)))))), none.2.tree)
+    subst (λ (x : Trouble). Ends at (AskRename s t) (Err x) at') (sym why) (refuse_room at s t (reason_errno NoFolder) tree low_s low_t some (is_path-no s t (other_path s t apart.not_into)) (inr (apart.not_into, inr (apart.not_over, inr (down, inr ((λ f d. other_no_folder (at s) f none.0), inl (none.0, none.1, refl)))))), none.2.tree)
 not_moved at at' olds news s t NotEmpty trouble tree low_s low_t down some apart none why = full_kept at at' olds news s t trouble tree low_s low_t down some apart none why
 not_moved at at' olds news s t (Lost number) (Failed errno) tree low_s low_t down some apart (inl none) why = Before none.tree
 not_moved at at' olds news s t (Lost number) (Failed errno) tree low_s low_t down some apart (inr moves) why = After Done (inl (moved_done at at' olds news s t tree low_s low_t down apart moves))

@@ -1,12 +1,11 @@
 -- How a rename ends that replaces nothing.
-use Rattle.std.proofs.Common.{ℤ, Result, Ok, Err, ◌≡◌, true, false, [], ◌∷◌, ◌++◌, Some, None, IsSome, refl, sym, subst, inl, inr}
+use Rattle.std.proofs.Common.{ℤ, Ok, Err, ◌≡◌, true, false, [], ◌∷◌, ◌++◌, Some, None, IsSome, refl, sym, subst, inl, inr}
 use Rattle.paths.specs.Prefixes.{Name, Names, is_prefix}
-use Rattle.backing.specs.declared.call.Answer.{Answer}
 use Rattle.backing.specs.declared.call.Answer.TheVariants.{Done}
 use Rattle.backing.specs.declared.entries.Item.TheVariants.{Folder}
 use Rattle.backing.specs.Tree.{Tree, IsTree, Resolves}
 use Rattle.backing.specs.Calls.{AskRenameNew, Refuses, tests_of}
-use Rattle.backing.specs.Checks.{new_tests, present_tests}
+use Rattle.backing.specs.Checks.{new_tests}
 use Rattle.backing.proofs.PathLemmas.{is_path-no, is_path-yes}
 use Rattle.disk.specs.Answers.{AreApart, Moves, Renames}
 use Rattle.disk.specs.declared.error.DiskError.{DiskError}
@@ -14,8 +13,8 @@ use Rattle.disk.specs.declared.error.DiskError.TheVariants.{Absent, Exists, NotF
 use Rattle.disk_folder.specs.declared.trouble.Trouble.{Trouble}
 use Rattle.disk_folder.specs.declared.trouble.Trouble.TheVariants.{Refused, Failed}
 use Rattle.disk_folder.specs.declared.trouble.Reason.TheVariants.{Taken, Below, Names as HasNames}
-use Rattle.disk_folder.specs.Ends.{Ends, Before, After, IsRefused}
-use Rattle.disk_folder.specs.Troubles.{IsFailure, IsStopped, reason_errno}
+use Rattle.disk_folder.specs.Ends.{Ends, Before, After}
+use Rattle.disk_folder.specs.Troubles.{IsStopped, reason_errno}
 use Rattle.disk_folder.proofs.MoveEnds.{apart_low}
 use Rattle.disk_folder.proofs.KeptCases.{other_path}
 use Rattle.disk_folder.proofs.WayLemmas.{leads, leads_below}

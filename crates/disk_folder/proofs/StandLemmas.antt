@@ -4,12 +4,12 @@ use Rattle.std.specs.Option.{option_map}
 use Rattle.std.proofs.lemmas.Option.{none-some}
 use Rattle.paths.specs.Prefixes.{Name, Names}
 use Rattle.paths.proofs.PrefixLemmas.{not_over_parent}
-use Rattle.backing.specs.declared.call.Kind.{Kind}
-use Rattle.backing.specs.declared.call.Kind.TheVariants as kinds
+use Rattle.payload.specs.declared.attributes.Kind.{Kind}
+use Rattle.payload.specs.declared.attributes.Kind.TheVariants as kinds
 use Rattle.backing.specs.declared.entries.Item.{Item}
 use Rattle.backing.specs.declared.entries.Item.TheVariants.{Folder}
 use Rattle.backing.specs.Tree.{Tree, IsFile, kind_of}
-use Rattle.backing.proofs.KindLemmas.{kind_file, kind_folder}
+use Rattle.backing.proofs.KindLemmas.{kind_folder}
 use Rattle.path_cache.specs.declared.places.Place.{Place}
 use Rattle.path_cache.specs.Cache.{kept_at, value_at, IsAt}
 use Rattle.path_cache.proofs.CallerLemmas.{value_here}
@@ -18,7 +18,7 @@ use Rattle.disk_folder.specs.declared.opened.Held.{Held}
 use Rattle.disk_folder.specs.declared.opened.Held.TheVariants.{Kept, Own}
 use Rattle.disk_folder.specs.declared.open_cache.OpenCache.{OpenCache}
 use Rattle.disk_folder.specs.declared.trouble.Trouble.{Trouble}
-use Rattle.disk_folder.proofs.WayLemmas.{file_is}
+use Rattle.disk_folder.proofs.WayLemmas.{file_is, kind_file}
 use Rattle.disk_folder.specs.Standing.{open_of, kind_at, AllStand, IsFileAt, IsOpenFile, IsOpenFolder, IsOwn, IsFolderAt, IsHeldAt, IsStanding, KeepsAll, Keeps, OwnStands, Settles}
 
 pub some_same : {A : Type 0} (x y : A) (o : Option A) → o ≡ Some x → o ≡ Some y → x ≡ y

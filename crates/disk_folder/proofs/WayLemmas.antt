@@ -3,22 +3,31 @@ use Rattle.std.proofs.Common.{ℕ, get_or, true, ◌≡◌, ◌<◌, ◌≤◌, 
 use Rattle.std.proofs.lemmas.List.{take-append-le, take-append-drop, length-take-le, take_more}
 use Rattle.std.proofs.lemmas.Bool.{cases_eq}
 use Rattle.errno.specs.declared.TheConstants.{ENOENT}
+use Rattle.std.specs.Option.{option_map}
 use Rattle.paths.specs.Prefixes.{Name, Names, is_prefix}
 use Rattle.paths.proofs.PrefixLemmas.{is_prefix-more}
 use Rattle.backing.specs.declared.entries.Item.{Item}
-use Rattle.backing.specs.declared.entries.Item.TheVariants.{Folder, File}
-use Rattle.backing.specs.Tree.{Tree, IsTree, IsFile, IsFolder, Blocks, Resolves, Stops}
+use Rattle.backing.specs.declared.entries.Item.TheVariants.{Folder, File, Link, Special}
+use Rattle.payload.specs.declared.attributes.Kind.TheVariants as kinds
+use Rattle.backing.specs.Tree.{Tree, IsTree, IsFile, IsFolder, IsOther, Blocks, Resolves, Stops, kind_of}
 use Rattle.backing.proofs.Lawful.{some_item, stands_above}
 use Rattle.disk_folder.specs.declared.trouble.Trouble.{Trouble}
 use Rattle.disk_folder.specs.declared.trouble.Trouble.TheVariants.{Refused, Failed}
-use Rattle.disk_folder.specs.declared.trouble.Reason.TheVariants.{Root, Nothing, Taken, NoFolder, Folder as IsOne, Below, Names as HasNames}
-use Rattle.disk_folder.specs.Seen.{IsMissing}
 use Rattle.disk_folder.specs.Troubles.{IsBarred, IsBlocked, reason_errno}
 
 pub file_is : (o : Option Item) → IsFile o → (bytes : List ℕ) × (o ≡ Some (File bytes))
 file_is None h = absurd h
 file_is (Some Folder) h = absurd h
 file_is (Some (File bytes)) h = (bytes, refl)
+file_is (Some (Link text)) h = absurd h
+file_is (Some (Special special)) h = absurd h
+
+pub kind_file : (o : Option Item) → option_map kind_of o ≡ Some kinds.File → (bytes : List ℕ) × (o ≡ Some (File bytes))
+kind_file None h = cc
+kind_file (Some Folder) h = cc
+kind_file (Some (File bytes)) h = (bytes, refl)
+kind_file (Some (Link text)) h = cc
+kind_file (Some (Special special)) h = cc
 
 pub folder_yes : (o : Option Item) → o ≡ Some Folder → IsFolder o
 folder_yes o e = subst (λ (x : Option Item). IsFolder x) (sym e) tt
@@ -90,10 +99,12 @@ parent_is up path above name whole long prefix =
     let two : take (length up) path ≡ up = ap (λ (q : Names). take (length up) q) it.1 ∙ (take-append-le (length up) up it.0 (omega arith) ∙ take_whole up) in
     ap (λ (q : Names). q ++ name ∷ []) (sym two ∙ one) ∙ sym whole
 
-pub file_no_folder : (o : Option Item) → IsFile o → IsFolder o → ⊥
-file_no_folder None f g = f
-file_no_folder (Some Folder) f g = f
-file_no_folder (Some (File bytes)) f g = g
+pub other_no_folder : (o : Option Item) → IsOther o → IsFolder o → ⊥
+other_no_folder None f g = f
+other_no_folder (Some Folder) f g = f
+other_no_folder (Some (File bytes)) f g = g
+other_no_folder (Some (Link text)) f g = g
+other_no_folder (Some (Special special)) f g = g
 
 pub some_from : (o : Option Item) → IsFolder o → IsSome o
 some_from None h = absurd h

@@ -5,10 +5,10 @@ use Rattle.std.proofs.lemmas.List.{length-take-le}
 use Rattle.paths.specs.Prefixes.{Name, Names, is_prefix}
 use Rattle.paths.proofs.PrefixLemmas.{is_prefix-append, is_prefix-same, is_prefix-trans, is_prefix-both, is_prefix-whole, not_over_parent, is_name-same}
 use Rattle.backing.specs.declared.entries.Item.{Item}
-use Rattle.backing.specs.declared.entries.Item.TheVariants.{Folder, File}
+use Rattle.backing.specs.declared.entries.Item.TheVariants.{Folder, File, Link}
 use Rattle.errno.specs.declared.TheConstants.{ENOENT, EBUSY, EEXIST, ENOTDIR, EISDIR, EINVAL, ENOTEMPTY}
-use Rattle.backing.specs.Tree.{Tree, IsTree, Blocks, IsFolder, IsFile, Resolves, Stops, IsBare, with_item}
-use Rattle.backing.specs.Calls.{Test, AskRename, AskRenameNew, AskRemoveDir, BelowRoot, Reached, Present, Free, NoFolder, NoFile, Bare, PassesAll, Refuses}
+use Rattle.backing.specs.Tree.{Tree, IsTree, Blocks, IsFolder, IsNeither, IsNoLink, IsOther, Resolves, Stops, IsBare, with_item}
+use Rattle.backing.specs.Calls.{Test, AskRename, AskRenameNew, AskRemoveDir, BelowRoot, Reached, Present, Free, FileAt, LinkAt, FolderAt, NoFolder, Bare, PassesAll, Refuses}
 use Rattle.disk_folder.specs.Explained.{Explained, Explains}
 use Rattle.backing.proofs.PathLemmas.{same_path, is_path-yes, is_path-no}
 use Rattle.backing.proofs.Looking.{with_same, with_other}
@@ -61,16 +61,16 @@ two_bare_s s t h = record { none = λ name. two_none s t (s ++ name ∷ []) (not
 two_bare_t : (s t : Names) → is_prefix t s ≡ false → IsBare (two s t) t
 two_bare_t s t h = record { none = λ name. two_none s t (t ++ name ∷ []) (no_up t name s h) (not_over_parent t name) }
 
--- a file in the place of a folder without names
-with_leaf : (at : Tree) (p : Names) → IsTree at → (p ≡ [] → ⊥) → IsBare at p → IsSome (at p) → IsTree (with_item at p (File []))
-with_leaf at p t below bare stands = record {
-  root = with_other at p (File []) [] below ∙ t.root;
+-- something else in the place of a folder without names
+with_leaf : (at : Tree) (p : Names) (leaf : Item) → IsTree at → (p ≡ [] → ⊥) → IsBare at p → IsSome (at p) → IsTree (with_item at p leaf)
+with_leaf at p leaf t below bare stands = record {
+  root = with_other at p leaf [] below ∙ t.root;
   parents = λ up name some.
       let stood : IsSome (at (up ++ name ∷ [])) = elim (same_path p (up ++ name ∷ [])) [
         | inl e ↦ subst (λ (q : Names). IsSome (at q)) e stands
-        | inr far ↦ subst (λ (o : Option Item). IsSome o) (with_other at p (File []) (up ++ name ∷ []) far) some
+        | inr far ↦ subst (λ (o : Option Item). IsSome o) (with_other at p leaf (up ++ name ∷ []) far) some
       ] in
-      with_other at p (File []) up (λ e. no_item (at (up ++ name ∷ [])) (subst (λ (q : Names). at (q ++ name ∷ []) ≡ None) e (bare.none name)) stood) ∙ t.parents up name stood;
+      with_other at p leaf up (λ e. no_item (at (up ++ name ∷ [])) (subst (λ (q : Names). at (q ++ name ∷ []) ≡ None) e (bare.none name)) stood) ∙ t.parents up name stood;
 }
 
 is_prefix_head : (x : Name) (p q : Names) → is_prefix (x ∷ p) (x ∷ q) ≡ is_prefix p q
@@ -93,11 +93,17 @@ leads at p folders = record {
 is_folder : (o : Option Item) → o ≡ Some Folder → IsFolder o
 is_folder o e = subst (λ (x : Option Item). IsFolder x) (sym e) tt
 
-is_file : (o : Option Item) → o ≡ Some (File []) → IsFile o
-is_file o e = subst (λ (x : Option Item). IsFile x) (sym e) tt
+is_other : (o : Option Item) → o ≡ Some (File []) → IsOther o
+is_other o e = subst (λ (x : Option Item). IsOther x) (sym e) tt
 
-no_folder_file : (o : Option Item) → o ≡ Some Folder → IsFile o → ⊥
-no_folder_file o e file = let gone : IsFile (Some Folder) = subst (λ (x : Option Item). IsFile x) e file in gone
+is_neither : (o : Option Item) → o ≡ Some (Link []) → IsNeither o
+is_neither o e = subst (λ (x : Option Item). IsNeither x) (sym e) tt
+
+is_no_link : (o : Option Item) → o ≡ Some Folder → IsNoLink o
+is_no_link o e = subst (λ (x : Option Item). IsNoLink x) (sym e) tt
+
+no_folder_other : (o : Option Item) → o ≡ Some Folder → IsOther o → ⊥
+no_folder_other o e other = let gone : IsOther (Some Folder) = subst (λ (x : Option Item). IsOther x) e other in gone
 
 blocked : (x y : Name) (p : Names) → Stops (two [] []) (x ∷ y ∷ p) ENOENT
 blocked x y p = record {
@@ -116,8 +122,8 @@ absent (x ∷ (y ∷ p)) more below = inl (blocked x y p)
 low : (x : Name) (p : Names) → x ∷ p ≡ [] → ⊥
 low x p e = cc
 
-file_tree : (p : Names) → (p ≡ [] → ⊥) → IsTree (with_item (two p p) p (File []))
-file_tree p below = with_leaf (two p p) p (two_tree p p) below (record { none = λ name. two_none p p (p ++ name ∷ []) (not_over_parent p name) (not_over_parent p name) }) (some_item (two p p p) Folder (two_s p p p (is_prefix-same p)))
+leaf_tree : (p : Names) (leaf : Item) → (p ≡ [] → ⊥) → IsTree (with_item (two p p) p leaf)
+leaf_tree p leaf below = with_leaf (two p p) p leaf (two_tree p p) below (record { none = λ name. two_none p p (p ++ name ∷ []) (not_over_parent p name) (not_over_parent p name) }) (some_item (two p p p) Folder (two_s p p p (is_prefix-same p)))
 
 file_blocks : (x y : Name) (p : Names) → Stops (with_item (two (x ∷ []) (x ∷ [])) (x ∷ []) (File [])) (x ∷ y ∷ p) ENOTDIR
 file_blocks x y p =
@@ -129,8 +135,8 @@ file_blocks x y p =
       why = subst (λ (o : Option Item). Blocks o ENOTDIR) (sym (with_same (two (x ∷ []) (x ∷ [])) (x ∷ []) (File []))) refl;
     }
 
-file_leads : (p : Names) → Resolves (with_item (two p p) p (File [])) p
-file_leads p = leads (with_item (two p p) p (File [])) p (λ q prefix other. with_other (two p p) p (File []) q (λ e. other (sym e)) ∙ two_s p p q prefix)
+leaf_leads : (p : Names) (leaf : Item) → Resolves (with_item (two p p) p leaf) p
+leaf_leads p leaf = leads (with_item (two p p) p leaf) p (λ q prefix other. with_other (two p p) p leaf q (λ e. other (sym e)) ∙ two_s p p q prefix)
 
 folder_leads : (p : Names) → Resolves (two p p) p
 folder_leads p = leads (two p p) p (λ q prefix other. two_s p p q prefix)
@@ -138,8 +144,8 @@ folder_leads p = leads (two p p) p (λ q prefix other. two_s p p q prefix)
 some_folder : (p : Names) → IsSome (two p p p)
 some_folder p = some_item (two p p p) Folder (two_s p p p (is_prefix-same p))
 
-some_leaf : (p : Names) → IsSome (with_item (two p p) p (File []) p)
-some_leaf p = some_item (with_item (two p p) p (File []) p) (File []) (with_same (two p p) p (File []))
+some_leaf : (p : Names) (leaf : Item) → IsSome (with_item (two p p) p leaf p)
+some_leaf p leaf = some_item (with_item (two p p) p leaf p) leaf (with_same (two p p) p leaf)
 
 pub lost_absent : (p : Names) (more : List Test) → 0 < length p → Explained (Reached p ∷ Present p ∷ more) ENOENT
 lost_absent [] more within = absurd (omega arith)
@@ -148,21 +154,36 @@ lost_absent (x ∷ p) more within = record { at = two [] []; is_tree = two_tree 
 pub lost_blocked : (p : Names) (more : List Test) → 1 < length p → Explained (Reached p ∷ more) ENOTDIR
 lost_blocked [] more within = absurd (omega arith)
 lost_blocked (x ∷ []) more within = absurd (omega arith)
-lost_blocked (x ∷ (y ∷ p)) more within = record { at = with_item (two (x ∷ []) (x ∷ [])) (x ∷ []) (File []); is_tree = file_tree (x ∷ []) (low x []); refuses = inl (file_blocks x y p) }
+lost_blocked (x ∷ (y ∷ p)) more within = record { at = with_item (two (x ∷ []) (x ∷ [])) (x ∷ []) (File []); is_tree = leaf_tree (x ∷ []) (File []) (low x []); refuses = inl (file_blocks x y p) }
 
 pub not_there : (p : Names) (more : List Test) → 1 < length p → Explained (Reached p ∷ more) ENOENT
 not_there [] more within = absurd (omega arith)
 not_there (x ∷ []) more within = absurd (omega arith)
 not_there (x ∷ (y ∷ p)) more within = record { at = two [] []; is_tree = two_tree [] []; refuses = inl (blocked x y p) }
 
-pub no_file : (p : Names) (more : List Test) → Explained (Reached p ∷ Present p ∷ NoFolder p ∷ more) EISDIR
-no_file p more = record { at = two p p; is_tree = two_tree p p; refuses = inr (folder_leads p, inr (some_folder p, inl (is_folder (two p p p) (two_s p p p (is_prefix-same p)), refl))) }
+pub folder_there : (p : Names) (more : List Test) → Explained (Reached p ∷ Present p ∷ NoFolder p ∷ more) EISDIR
+folder_there p more = record { at = two p p; is_tree = two_tree p p; refuses = inr (folder_leads p, inr (some_folder p, inl (is_folder (two p p p) (two_s p p p (is_prefix-same p)), refl))) }
 
-pub no_folder : (p : Names) (more : List Test) → 0 < length p → Explained (Reached p ∷ Present p ∷ NoFile p ∷ more) ENOTDIR
+pub no_file_folder : (p : Names) (more : List Test) → Explained (Reached p ∷ Present p ∷ FileAt p ∷ more) EISDIR
+no_file_folder p more = record { at = two p p; is_tree = two_tree p p; refuses = inr (folder_leads p, inr (some_folder p, inl (inl (is_folder (two p p p) (two_s p p p (is_prefix-same p)), refl)))) }
+
+-- a link stands at p
+pub no_file_neither : (p : Names) (more : List Test) → 0 < length p → Explained (Reached p ∷ Present p ∷ FileAt p ∷ more) EINVAL
+no_file_neither [] more within = absurd (omega arith)
+no_file_neither (x ∷ p) more within =
+    let q = x ∷ p in
+    let at : Tree = with_item (two q q) q (Link []) in
+    record { at = at; is_tree = leaf_tree q (Link []) (low x p); refuses = inr (leaf_leads q (Link []), inr (some_leaf q (Link []), inl (inr (is_neither (at q) (with_same (two q q) q (Link [])), refl)))) }
+
+-- a folder stands at p
+pub no_link : (p : Names) (more : List Test) → Explained (Reached p ∷ Present p ∷ LinkAt p ∷ more) EINVAL
+no_link p more = record { at = two p p; is_tree = two_tree p p; refuses = inr (folder_leads p, inr (some_folder p, inl (is_no_link (two p p p) (two_s p p p (is_prefix-same p)), refl))) }
+
+pub no_folder : (p : Names) (more : List Test) → 0 < length p → Explained (Reached p ∷ Present p ∷ FolderAt p ∷ more) ENOTDIR
 no_folder [] more within = absurd (omega arith)
 no_folder (x ∷ p) more within =
     let q = x ∷ p in
-    record { at = with_item (two q q) q (File []); is_tree = file_tree q (low x p); refuses = inr (file_leads q, inr (some_leaf q, inl (is_file (with_item (two q q) q (File []) q) (with_same (two q q) q (File [])), refl))) }
+    record { at = with_item (two q q) q (File []); is_tree = leaf_tree q (File []) (low x p); refuses = inr (leaf_leads q (File []), inr (some_leaf q (File []), inl (is_other (with_item (two q q) q (File []) q) (with_same (two q q) q (File [])), refl))) }
 
 pub taken : (p : Names) (more : List Test) → Explained (Reached p ∷ Free p ∷ more) EEXIST
 taken p more = record { at = two p p; is_tree = two_tree p p; refuses = inr (folder_leads p, inl (some_folder p, refl)) }
@@ -177,12 +198,12 @@ dir_root [] none = record { at = two [] []; is_tree = two_tree [] []; refuses = 
 dir_root (x ∷ p) none = absurd (omega arith)
 
 pub dir_lost : (p : Names) → 0 < length p → Explains (AskRemoveDir p) ENOENT
-dir_lost p within = behind_root p (Reached p ∷ Present p ∷ NoFile p ∷ Bare p ∷ []) ENOENT within (lost_absent p (NoFile p ∷ Bare p ∷ []) within)
+dir_lost p within = behind_root p (Reached p ∷ Present p ∷ FolderAt p ∷ Bare p ∷ []) ENOENT within (lost_absent p (FolderAt p ∷ Bare p ∷ []) within)
 
 pub dir_no_folder : (p : Names) → 0 < length p → Explains (AskRemoveDir p) ENOTDIR
-dir_no_folder p within = behind_root p (Reached p ∷ Present p ∷ NoFile p ∷ Bare p ∷ []) ENOTDIR within (no_folder p (Bare p ∷ []) within)
+dir_no_folder p within = behind_root p (Reached p ∷ Present p ∷ FolderAt p ∷ Bare p ∷ []) ENOTDIR within (no_folder p (Bare p ∷ []) within)
 
-dir_names : (p : Names) → Explained (Reached p ∷ Present p ∷ NoFile p ∷ Bare p ∷ []) ENOTEMPTY
+dir_names : (p : Names) → Explained (Reached p ∷ Present p ∷ FolderAt p ∷ Bare p ∷ []) ENOTEMPTY
 dir_names p =
     let q = p ++ [] ∷ [] in
     let at : Tree = two q q in
@@ -195,7 +216,7 @@ dir_names p =
         inr (
           some_item (at p) Folder folder,
           inr (
-            no_folder_file (at p) folder,
+            is_folder (at p) folder,
             inl (record { name = []; stands = some_folder q }, refl),
           ),
         ),
@@ -203,7 +224,7 @@ dir_names p =
     }
 
 pub dir_not_bare : (p : Names) → 0 < length p → Explains (AskRemoveDir p) ENOTEMPTY
-dir_not_bare p within = behind_root p (Reached p ∷ Present p ∷ NoFile p ∷ Bare p ∷ []) ENOTEMPTY within (dir_names p)
+dir_not_bare p within = behind_root p (Reached p ∷ Present p ∷ FolderAt p ∷ Bare p ∷ []) ENOTEMPTY within (dir_names p)
 
 -- renames
 pub from_root : (s t : Names) (more : List Test) → length s ≡ 0 → Explained (source_tests s t ++ more) EBUSY
@@ -276,9 +297,9 @@ move_on_names s t low_s low_t a b =
               inr (
                 leads_t,
                 inr (
-                  (λ file folder. no_folder_file (at s) folder_s file),
+                  (λ other folder. no_folder_other (at s) folder_s other),
                   inr (
-                    (λ folder file. no_folder_file (at t) folder_t file),
+                    (λ folder other. no_folder_other (at t) folder_t other),
                     inl (record { name = []; stands = some_item (at u) Folder (two_t s u u (is_prefix-same u)) }, refl),
                   ),
                 ),
@@ -296,9 +317,9 @@ move_file_on_folder s t low_s low_t a b =
     let leads_t = leads at t (λ q prefix other. with_other (two s t) s (File []) q (λ e. true≢false (sym (subst (λ (r : Names). is_prefix r t ≡ true) (sym e) prefix) ∙ a)) ∙ two_t s t q prefix) in
     record {
       at = at;
-      is_tree = with_leaf (two s t) s (two_tree s t) low_s (two_bare_s s t a) (some_item (two s t s) Folder (two_s s t s (is_prefix-same s)));
+      is_tree = with_leaf (two s t) s (File []) (two_tree s t) low_s (two_bare_s s t a) (some_item (two s t s) Folder (two_s s t s (is_prefix-same s)));
       refuses = renames_refused at s t EISDIR (other_path s t a) (source_passes at s t low_s low_t leads_s (some_item (at s) (File []) file))
-          (inr (a, inr (b, inr (leads_t, inl (is_file (at s) file, is_folder (at t) folder, refl)))));
+          (inr (a, inr (b, inr (leads_t, inl (is_other (at s) file, is_folder (at t) folder, refl)))));
     }
 
 pub move_folder_on_file : (s t : Names) → (s ≡ [] → ⊥) → (t ≡ [] → ⊥) → is_prefix s t ≡ false → is_prefix t s ≡ false → Explains (AskRename s t) ENOTDIR
@@ -310,9 +331,9 @@ move_folder_on_file s t low_s low_t a b =
     let leads_t = leads at t (λ q prefix other. with_other (two s t) t (File []) q (λ e. other (sym e)) ∙ two_t s t q prefix) in
     record {
       at = at;
-      is_tree = with_leaf (two s t) t (two_tree s t) low_t (two_bare_t s t b) (some_item (two s t t) Folder (two_t s t t (is_prefix-same t)));
+      is_tree = with_leaf (two s t) t (File []) (two_tree s t) low_t (two_bare_t s t b) (some_item (two s t t) Folder (two_t s t t (is_prefix-same t)));
       refuses = renames_refused at s t ENOTDIR (other_path s t a) (source_passes at s t low_s low_t leads_s (some_item (at s) Folder folder))
-          (inr (a, inr (b, inr (leads_t, inr ((λ file_s folder_t. no_folder_file (at s) folder file_s), inl (is_folder (at s) folder, is_file (at t) file, refl))))));
+          (inr (a, inr (b, inr (leads_t, inr ((λ other_s folder_t. no_folder_other (at s) folder other_s), inl (is_folder (at s) folder, is_other (at t) file, refl))))));
     }
 
 -- ---- renames that replace nothing
@@ -367,7 +388,7 @@ new_blocked_at z x y q a b =
       down = λ k within. let first : 0 ≡ k = omega arith in subst (λ (n : ℕ). IsFolder (at (take n t))) first tt;
       why = subst (λ (o : Option Item). Blocks o ENOTDIR) (sym (with_same (two s u) u (File []))) refl;
     } in
-    let tree = with_leaf (two s u) u (two_tree s u) (low x []) (two_bare_t s u beside) (some_item (two s u u) Folder (two_t s u u (is_prefix-same u))) in
+    let tree = with_leaf (two s u) u (File []) (two_tree s u) (low x []) (two_bare_t s u beside) (some_item (two s u u) Folder (two_t s u u (is_prefix-same u))) in
     new_refused at s t ENOTDIR tree (source_passes at s t (low z []) (low x (y ∷ q)) leads_s (some_item (at s) Folder folder)) (inr (is_path-no s t (other_path s t a), inr (a, inr (b, inl stops))))
 
 pub new_blocked : (s t : Names) → length s ≡ 1 → 1 < length t → is_prefix s t ≡ false → is_prefix t s ≡ false → Explains (AskRenameNew s t) ENOTDIR

@@ -20,7 +20,7 @@ abbrev pub IsWhyNotMade : DiskError → Trouble → Type 0
 IsWhyNotMade Exists trouble = IsTaken trouble
 IsWhyNotMade error trouble = IsFailure trouble
 
--- why no file was removed, by the system's error
+-- why nothing was removed that is no folder, by the system's error
 abbrev pub IsWhyNotRemoved : DiskError → Trouble → Type 0
 IsWhyNotRemoved Absent trouble = trouble ≡ Refused Nothing
 IsWhyNotRemoved IsFolder trouble = trouble ≡ Refused IsOne

@@ -3,15 +3,15 @@ use Rattle.std.specs.Prelude.{ℕ, ◌≡◌, Some, None}
 use Rattle.paths.specs.Prefixes.{Names}
 use Rattle.backing.specs.declared.call.Answer.{Answer}
 use Rattle.backing.specs.declared.call.Answer.TheVariants.{Stat}
-use Rattle.backing.specs.declared.call.Details.{Details}
-use Rattle.backing.specs.declared.call.Kind.{Kind}
-use Rattle.backing.specs.declared.call.Kind.TheVariants as kinds
+use Rattle.payload.specs.declared.attributes.Details.{Details}
+use Rattle.payload.specs.declared.attributes.Kind.{Kind}
+use Rattle.payload.specs.declared.attributes.Kind.TheVariants as kinds
 use Rattle.backing.specs.declared.entries.Item.{Item}
-use Rattle.backing.specs.Tree.{Tree, IsFolder, kind_of, size_of}
+use Rattle.backing.specs.Tree.{Tree, IsFolder, IsNeither, IsNoLink, kind_of, size_of}
 use Rattle.disk_folder.specs.declared.look.Seen.{Seen}
 use Rattle.disk_folder.specs.declared.trouble.Trouble.{Trouble}
 use Rattle.disk_folder.specs.declared.trouble.Trouble.TheVariants.{Refused, Failed}
-use Rattle.disk_folder.specs.declared.trouble.Reason.TheVariants.{Nothing, Folder as IsOne}
+use Rattle.disk_folder.specs.declared.trouble.Reason.TheVariants.{Nothing, NoFile, NoLink, Folder as IsOne}
 
 -- that stands at q
 pub record IsSeen (at : Tree) (q : Names) (seen : Seen) : Type 0 where
@@ -29,11 +29,19 @@ IsMissing at q (Failed errno) = Unit {0}
 -- what is told of it: no folder has a size
 abbrev pub told_by : Kind → ℕ → Details → Answer
 told_by kinds.Folder size details = Stat kinds.Folder 0 details
-told_by kinds.File size details = Stat kinds.File size details
+told_by kind size details = Stat kind size details
 
--- nothing stands at q, or a folder, or a call of the system failed
+-- nothing stands at q, or what is no file, or a call of the system failed
 abbrev pub IsNoFile : Tree → Names → Trouble → Type 0
 IsNoFile at q (Refused Nothing) = at q ≡ None
 IsNoFile at q (Refused IsOne) = IsFolder (at q)
+IsNoFile at q (Refused NoFile) = IsNeither (at q)
 IsNoFile at q (Refused reason) = ⊥
 IsNoFile at q (Failed errno) = Unit {0}
+
+-- nothing stands at q, or what is no link, or a call of the system failed
+abbrev pub IsUnread : Tree → Names → Trouble → Type 0
+IsUnread at q (Refused Nothing) = at q ≡ None
+IsUnread at q (Refused NoLink) = IsNoLink (at q)
+IsUnread at q (Refused reason) = ⊥
+IsUnread at q (Failed errno) = Unit {0}

@@ -2,7 +2,7 @@
 use Rattle.std.specs.Prelude.{ℕ, ◌≡◌, ◌⊎◌, List, ◌++◌, ◌∷◌, [], false, Option, Some, None}
 use Rattle.std.specs.Option.{option_map}
 use Rattle.paths.specs.Prefixes.{Names, is_prefix}
-use Rattle.backing.specs.declared.call.Kind.{Kind}
+use Rattle.payload.specs.declared.attributes.Kind.{Kind}
 use Rattle.backing.specs.declared.entries.Item.TheVariants.{Folder, File}
 use Rattle.backing.specs.Tree.{Tree, kind_of}
 use Rattle.path_cache.specs.declared.places.Place.{Place}

@@ -6,7 +6,7 @@ use Rattle.backing.specs.Tree.{Tree, Blocks, Stops}
 use Rattle.disk_folder.specs.declared.trouble.Trouble.{Trouble}
 use Rattle.disk_folder.specs.declared.trouble.Trouble.TheVariants.{Refused, Failed}
 use Rattle.disk_folder.specs.declared.trouble.Reason.{Reason}
-use Rattle.disk_folder.specs.declared.trouble.Reason.TheVariants.{Root, Nothing, Taken, NoFolder, Folder, Below, Names as HasNames}
+use Rattle.disk_folder.specs.declared.trouble.Reason.TheVariants.{Root, Nothing, Taken, NoFolder, Folder, NoFile, NoLink, Below, Names as HasNames}
 
 -- its error number
 abbrev pub reason_errno : Reason → ℤ
@@ -15,6 +15,8 @@ reason_errno Nothing = ENOENT
 reason_errno Taken = EEXIST
 reason_errno NoFolder = ENOTDIR
 reason_errno Folder = EISDIR
+reason_errno NoFile = EINVAL
+reason_errno NoLink = EINVAL
 reason_errno Below = EINVAL
 reason_errno HasNames = ENOTEMPTY
 

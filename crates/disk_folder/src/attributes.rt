@@ -19,11 +19,12 @@ use crate::open_cache::OpenCache;
 use crate::opened::{Entry, Held, Open};
 use crate::trouble::{Trouble, as_failure, failure};
 use crate::walk::{go_above, open_folder};
-use backing::{Answer, Kind};
+use backing::Answer;
 use disk::{Access, Change, Disk, DiskError, FileId};
-use errno::{EACCES, EIO};
+use errno::{EACCES, EINVAL, EIO};
 use path_cache::Place;
 use paths::Path;
+use payload::Kind;
 
 /// The call is done, or the system failed.
 fn done(told: Result<(), DiskError>) -> Result<Answer, Trouble>
@@ -71,7 +72,7 @@ fn open_same_folder<D: Disk>(
     }
 }
 
-/// Opens what a look has shown at the name, for the length of the call.
+/// Opens what a look has shown at the name, for the length of the call. What is neither a file nor a folder is not opened.
 fn open_alone<'a, D: Disk>(
     disk: &D,
     cache: &mut OpenCache<D::Handle>,
@@ -94,6 +95,7 @@ fn open_alone<'a, D: Disk>(
             Ok(opened) => Ok(cache.hold(entry, opened)),
             Err(trouble) => Err(trouble),
         },
+        Kind::Link | Kind::Special(_) => Err(Trouble::Failed(EINVAL)),
     }
 }
 
@@ -160,8 +162,23 @@ pub fn sync<D: Disk>(
     }
 }
 
-/// Sets it of what a look has shown at the name: of what may not be opened (EACCES), by its name.
-fn set_seen<D: Disk>(
+/// Sets it by its name of what stands there.
+fn set_by_name<D: Disk>(
+    disk: &D,
+    cache: &OpenCache<D::Handle>,
+    entry: &Entry<'_, D::Handle>,
+    change: Change,
+) -> Result<Answer, Trouble>
+    requires { IsEntry cache.now entry.now }
+    ensures done { IfOk result (λ answer. answer ≡ Done) }
+    ensures set { (up : Names) → IsFolderAt (D.tree disk.now) (D.stands disk.now) cache.now entry.now.folder up → OnOk result (D.has_set disk.now (up ++ entry.now.name.now ∷ []) change) }
+    ensures err { IfErr result IsFailure }
+{
+    done(disk.set_at(&cache.open(&entry.folder).handle, entry.name, change))
+}
+
+/// Sets it of a file or folder that a look has shown at the name: of what may not be opened (EACCES), by its name.
+fn set_opened<D: Disk>(
     disk: &D,
     cache: &mut OpenCache<D::Handle>,
     entry: &Entry<'_, D::Handle>,
@@ -176,10 +193,28 @@ fn set_seen<D: Disk>(
 {
     match open_seen(disk, cache, entry, seen) {
         Ok(held) => done(disk.set(&cache.open(&held).handle, change)),
-        Err(Trouble::Failed(EACCES)) => {
-            done(disk.set_at(&cache.open(&entry.folder).handle, entry.name, change))
-        }
+        Err(Trouble::Failed(EACCES)) => set_by_name(disk, cache, entry, change),
         Err(trouble) => Err(trouble),
+    }
+}
+
+/// Sets it of what a look has shown at the name: of what is neither a file nor a folder, by its name.
+fn set_seen<D: Disk>(
+    disk: &D,
+    cache: &mut OpenCache<D::Handle>,
+    entry: &Entry<'_, D::Handle>,
+    seen: Seen,
+    change: Change,
+) -> Result<Answer, Trouble>
+    requires { IsEntry cache.old entry.now }
+    ensures done { IfOk result (λ answer. answer ≡ Done) }
+    ensures set { (up : Names) → IsFolderAt (D.tree disk.now) (D.stands disk.now) cache.old entry.now.folder up → OnOk result (D.has_set disk.now (up ++ entry.now.name.now ∷ []) change) }
+    ensures err { IfErr result IsFailure }
+    ensures stand { (up : Names) → IsFolderAt (D.tree disk.now) (D.stands disk.now) cache.old entry.now.folder up → AllStand (D.tree disk.now) (D.stands disk.now) cache.new }
+{
+    match seen.kind {
+        Kind::File | Kind::Folder => set_opened(disk, cache, entry, seen, change),
+        Kind::Link | Kind::Special(_) => set_by_name(disk, cache, entry, change),
     }
 }
 

@@ -17,6 +17,7 @@ ghost use Rattle.disk_folder.specs.Suits.{Suits};
 use crate::attributes::{set, sync};
 use crate::explained::is_explained;
 use crate::files::{read, set_len, write};
+use crate::links::{make_link, read_link};
 use crate::listed::Listed;
 use crate::listing::list;
 use crate::making::{make, make_dir};
@@ -36,9 +37,11 @@ fn names_of(call: Call<'_>) -> usize {
         | Call::List(path)
         | Call::Make { path, .. }
         | Call::MakeDir { path, .. }
+        | Call::MakeLink { path, .. }
         | Call::Remove(path)
         | Call::RemoveDir(path)
         | Call::Read { path, .. }
+        | Call::ReadLink(path)
         | Call::Write { path, .. }
         | Call::SetLen { path, .. }
         | Call::Sync(path)
@@ -98,6 +101,7 @@ pub fn perform<D: Disk>(
         Call::Stat(path) => stat(disk, cache, listed, path),
         Call::List(path) => list(disk, cache, listed, path),
         Call::Read { path, offset, size } => read(disk, cache, spare, path, offset, size),
+        Call::ReadLink(path) => read_link(disk, cache, path),
         Call::Sync(path) => sync(disk, cache, path),
         Call::Make { path, permissions } => make(disk, cache, listed, path, permissions),
         call => {
@@ -121,6 +125,7 @@ fn perform_change<D: Disk>(
 {
     match call {
         Call::MakeDir { path, permissions } => make_dir(disk, cache, path, permissions),
+        Call::MakeLink { path, text } => make_link(disk, cache, path, text),
         Call::Remove(path) => remove(disk, cache, path),
         Call::RemoveDir(path) => remove_dir(disk, cache, path),
         Call::Rename { from, to } => rename(disk, cache, from, to),

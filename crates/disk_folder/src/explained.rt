@@ -2,7 +2,7 @@
 
 ghost use Rattle.std.specs.Prelude.{true, false, ◌≡◌, ◌≢◌, List, ◌∷◌, ◌++◌, []};
 ghost use Rattle.paths.specs.Prefixes.{is_prefix};
-ghost use Rattle.backing.specs.Calls.{Test, asked, Reached, Present, Free, NoFolder, NoFile, AskRename, AskRenameNew, AskRemoveDir};
+ghost use Rattle.backing.specs.Calls.{Test, asked, Reached, Present, Free, FileAt, LinkAt, FolderAt, NoFolder, AskRename, AskRenameNew, AskRemoveDir};
 ghost use Rattle.backing.specs.Checks.{source_tests};
 ghost use Rattle.disk_folder.specs.Explained.{Explained, Explains};
 ghost use Rattle.disk_folder.specs.Troubles.{reason_errno};
@@ -20,12 +20,14 @@ pub fn is_explained(call: Call<'_>, reason: Reason) -> bool
         Call::List(path) => is_no_folder(path, reason),
         Call::Make { path, .. } => is_not_free(path, reason),
         Call::MakeDir { path, .. } => is_not_free(path, reason),
-        Call::Remove(path) => is_no_file(path, reason),
+        Call::MakeLink { path, .. } => is_not_free(path, reason),
+        Call::Remove(path) => is_folder(path, reason),
         Call::RemoveDir(path) => is_no_bare_folder(path, reason),
         Call::Rename { from, to } => is_no_move(from, to, reason),
         Call::RenameNew { from, to } => is_no_new_move(from, to, reason),
         Call::Exchange { .. } => false,
         Call::Read { path, .. } => is_no_file(path, reason),
+        Call::ReadLink(path) => is_no_link(path, reason),
         Call::Write { path, .. } => is_no_file(path, reason),
         Call::SetLen { path, .. } => is_no_file(path, reason),
         Call::Sync(path) => is_lost(path, reason),
@@ -35,7 +37,7 @@ pub fn is_explained(call: Call<'_>, reason: Reason) -> bool
     }
 }
 
-/// Nothing stands there, or a file stands above it.
+/// Nothing stands there, or no folder above it.
 fn is_lost(path: &Path, reason: Reason) -> bool
     ensures { result ≡ true → (more : List Test) → Explained (Reached path.now ∷ Present path.now ∷ more) (reason_errno reason) }
 {
@@ -46,8 +48,8 @@ fn is_lost(path: &Path, reason: Reason) -> bool
     }
 }
 
-/// It is lost, or is no file.
-fn is_no_file(path: &Path, reason: Reason) -> bool
+/// It is lost, or is a folder.
+fn is_folder(path: &Path, reason: Reason) -> bool
     ensures { result ≡ true → (more : List Test) → Explained (Reached path.now ∷ Present path.now ∷ NoFolder path.now ∷ more) (reason_errno reason) }
 {
     match reason {
@@ -56,9 +58,30 @@ fn is_no_file(path: &Path, reason: Reason) -> bool
     }
 }
 
+/// It is lost, or is a folder, or neither that nor a file, which the root is not.
+fn is_no_file(path: &Path, reason: Reason) -> bool
+    ensures { result ≡ true → (more : List Test) → Explained (Reached path.now ∷ Present path.now ∷ FileAt path.now ∷ more) (reason_errno reason) }
+{
+    match reason {
+        Reason::Folder => true,
+        Reason::NoFile => path.len() > 0,
+        _ => is_lost(path, reason),
+    }
+}
+
+/// It is lost, or is no link.
+fn is_no_link(path: &Path, reason: Reason) -> bool
+    ensures { result ≡ true → (more : List Test) → Explained (Reached path.now ∷ Present path.now ∷ LinkAt path.now ∷ more) (reason_errno reason) }
+{
+    match reason {
+        Reason::NoLink => true,
+        _ => is_lost(path, reason),
+    }
+}
+
 /// It is lost, or is no folder.
 fn is_no_folder(path: &Path, reason: Reason) -> bool
-    ensures { result ≡ true → (more : List Test) → Explained (Reached path.now ∷ Present path.now ∷ NoFile path.now ∷ more) (reason_errno reason) }
+    ensures { result ≡ true → (more : List Test) → Explained (Reached path.now ∷ Present path.now ∷ FolderAt path.now ∷ more) (reason_errno reason) }
 {
     match reason {
         Reason::NoFolder => path.len() > 0,

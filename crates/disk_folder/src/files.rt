@@ -19,11 +19,11 @@ use crate::open_cache::OpenCache;
 use crate::parts::{read_all, write_all};
 use crate::stat::see;
 use crate::trouble::{Reason, Trouble, failure};
-use backing::{Answer, Kind};
+use backing::Answer;
 use disk::{Access, Disk};
 use errno::{EINVAL, EIO};
 use paths::Path;
-use payload::{HEADER_ROOM, Payload};
+use payload::{HEADER_ROOM, Kind, Payload};
 use std::alloc::{AllocError, Global};
 use std::mem::replace;
 
@@ -128,6 +128,7 @@ fn see_file<D: Disk>(disk: &D, cache: &mut OpenCache<D::Handle>, path: &Path) ->
         Ok(seen) => match seen.kind {
             Kind::File => Ok(()),
             Kind::Folder => Err(Trouble::Refused(Reason::Folder)),
+            Kind::Link | Kind::Special(_) => Err(Trouble::Refused(Reason::NoFile)),
         },
         Err(trouble) => Err(trouble),
     }

@@ -3,7 +3,7 @@
 ghost use Rattle.std.specs.Prelude.{◌≡◌, ◌++◌, ◌∷◌, [], Some, IfOk, IfErr, IfNone, IfSome};
 ghost use Rattle.paths.specs.Prefixes.{Names};
 ghost use Rattle.path_cache.specs.Cache.{IsAt};
-ghost use Rattle.backing.specs.declared.call.Kind.TheVariants as kinds;
+ghost use Rattle.payload.specs.declared.attributes.Kind.TheVariants as kinds;
 ghost use Rattle.backing.specs.Checks.{file_tests};
 ghost use Rattle.disk_folder.specs.Ends.{IsRefused};
 ghost use Rattle.disk_folder.specs.Standing.{AllStand, IsEntry, IsFileAt, IsFolderAt, IsHeldAt, IsOpenFile, KeepsAll, kind_at};
@@ -15,11 +15,11 @@ use crate::open_cache::OpenCache;
 use crate::opened::{Entry, Held, Open};
 use crate::trouble::{Reason, Trouble, failure};
 use crate::walk::{go_above, identified};
-use backing::Kind;
 use disk::{Access, Disk, DiskError, FileId};
 use errno::EIO;
 use path_cache::Place;
 use paths::Path;
+use payload::Kind;
 
 /// Where the path is kept as a file that serves: no call of the system.
 pub fn recall_file<'a, D: Disk>(
@@ -36,7 +36,7 @@ pub fn recall_file<'a, D: Disk>(
         Some(place) => {
             let opened = cache.cache.value(place);
             match opened.kind {
-                Kind::Folder => None,
+                Kind::Folder | Kind::Link | Kind::Special(_) => None,
                 Kind::File => {
                     if opened.access.serves(access) {
                         Some(place)
@@ -195,7 +195,7 @@ pub fn find_in<'a, D: Disk>(
     }
 }
 
-/// The open file at the name, behind a look.
+/// The open file at the name, behind a look. What is neither a file nor a folder is not opened.
 fn find_seen<'a, D: Disk>(
     disk: &D,
     cache: &mut OpenCache<D::Handle>,
@@ -212,6 +212,7 @@ fn find_seen<'a, D: Disk>(
         Ok(seen) => match seen.kind {
             Kind::Folder => Err(Trouble::Refused(Reason::Folder)),
             Kind::File => open_and_keep(disk, cache, entry, seen.id, access),
+            Kind::Link | Kind::Special(_) => Err(Trouble::Refused(Reason::NoFile)),
         },
         Err(trouble) => Err(trouble),
     }

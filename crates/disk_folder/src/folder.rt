@@ -12,10 +12,11 @@ use crate::calling::{begin, conclude, note_own, perform};
 use crate::listed::Listed;
 use crate::open_cache::OpenCache;
 use crate::opened::Open;
-use backing::{Answer, Call, Calls, Kind, KnownTree};
+use backing::{Answer, Call, Calls, KnownTree};
 use disk::{Access, Disk, DiskError, HonestDisk};
 use errno::ENOMEM;
 use path_cache::PathCache;
+use payload::Kind;
 use std::hash::RandomState;
 use std::marker::Model;
 use std::mem::replace;
@@ -25,11 +26,11 @@ const WORTH_KEEPING: usize = 1024;
 
 /// A folder of a disk, and all that is below it.
 ///
-/// It shows files and folders alone: a symbolic link, a pipe, a socket or a device is absent to it, wherever it stands in a path, and
-/// is neither followed nor opened. Each call goes down from open folder to open folder, each by one name. Folders and files that were
-/// come to stay open in a cache, the least recently used of which are closed for room. A folder there is used as it is for a second
-/// after a look has shown it under its name, and then after one more look, unless others who serve the same folder have moved or
-/// removed a folder since. A file there is used without a look.
+/// It shows what the disk shows: that of which the disk shows no kind is absent to it, wherever it stands in a path. A symbolic link
+/// is read as its text, and never followed; a pipe, a socket or a device is never opened. Each call goes down from open folder to open
+/// folder, each by one name. Folders and files that were come to stay open in a cache, the least recently used of which are closed for
+/// room. A folder there is used as it is for a second after a look has shown it under its name, and then after one more look, unless
+/// others who serve the same folder have moved or removed a folder since. A file there is used without a look.
 ///
 /// What a list has looked at is told again to the calls that follow it, for a tenth of a second and as long as nothing is changed.
 ///

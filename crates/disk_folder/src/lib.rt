@@ -8,6 +8,7 @@ mod explained;
 mod files;
 mod finding;
 mod folder;
+mod links;
 mod listed;
 mod listing;
 mod look;

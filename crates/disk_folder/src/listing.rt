@@ -32,7 +32,7 @@ pub struct SeenName {
     pub seen: Seen,
 }
 
-/// What stands at a name that the folder has. Nothing, where it has gone, or is neither a file nor a folder.
+/// What stands at a name that the folder has. Nothing, where it has gone, or where the disk shows no kind of it.
 fn look_listed<D: Disk>(disk: &D, folder: &D::Handle, name: &Name) -> Result<Option<Seen>, Trouble>
     ensures ok { (p : Names) → D.stands disk.now folder.now p → IfOk result (IsNamed (D.tree disk.now) (p ++ name.now ∷ [])) }
     ensures err { IfErr result IsFailure }
@@ -62,7 +62,7 @@ pub fn add(all: &mut Vec<SeenName>, name: &Name, seen: Option<Seen>) -> Result<(
     }
 }
 
-/// What stands at each of these names, which the folder has: one look each. What is neither a file nor a folder is left out.
+/// What stands at each of these names, which the folder has: one look each. That of which the disk shows no kind is left out.
 pub fn look_all<D: Disk>(
     disk: &D,
     folder: &D::Handle,

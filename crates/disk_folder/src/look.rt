@@ -12,17 +12,17 @@ ghost use Rattle.disk_folder.specs.Troubles.{IsFailure};
 use crate::open_cache::OpenCache;
 use crate::opened::Entry;
 use crate::trouble::{Reason, Trouble, failure};
-use backing::{Details, Kind};
 use disk::{Disk, DiskError, FileId, Stat, is_lawful};
 use errno::EINVAL;
 use paths::Name;
+use payload::{Details, Kind};
 
-/// A file or a folder, as one look has shown it.
+/// What stands there, as one look has shown it.
 #[derive(Clone, Copy)]
 pub struct Seen {
     pub kind: Kind,
     pub id: FileId,
-    /// In bytes, 0 for a folder.
+    /// In bytes. What a system says of a folder is not told.
     pub size: u64,
     pub details: Details,
 }
@@ -39,7 +39,7 @@ pub fn expect_lawful(name: &Name) -> Result<(), Trouble>
     }
 }
 
-/// A file or a folder. What is neither is absent to the folder.
+/// What the disk shows. That of which it shows no kind is absent to the folder.
 fn expect_shown(stat: Stat) -> Result<Seen, Trouble>
     ensures ok { (at : Tree) (q : Names) → IsStat at q stat → IfOk result (IsSeen at q) }
     ensures err { (at : Tree) (q : Names) → IsStat at q stat → IfErr result (IsMissing at q) }

@@ -4,7 +4,7 @@ ghost use Rattle.std.specs.Prelude.{◌≡◌, ◌++◌, ◌∷◌, [], Some, If
 ghost use Rattle.std.specs.Option.{option_map};
 ghost use Rattle.paths.specs.Prefixes.{Names};
 ghost use Rattle.backing.specs.declared.call.Answer.TheVariants.{Done};
-ghost use Rattle.backing.specs.declared.call.Kind.TheVariants as kinds;
+ghost use Rattle.payload.specs.declared.attributes.Kind.TheVariants as kinds;
 ghost use Rattle.backing.specs.Calls.{AskMake, AskMakeDir};
 ghost use Rattle.backing.specs.Tree.{kind_of};
 ghost use Rattle.disk_folder.specs.Changes.{IsTaken, IsWhyNotMade, done};
@@ -20,12 +20,13 @@ use crate::open_cache::OpenCache;
 use crate::opened::{Entry, Open};
 use crate::trouble::{Reason, Trouble, failure};
 use crate::walk::go_above;
-use backing::{Answer, Kind};
+use backing::Answer;
 use disk::{Access, Disk, DiskError};
 use errno::EEXIST;
 use paths::Path;
+use payload::Kind;
 
-/// Why the name is taken: one look tells a file or a folder from what is hidden, which makes the call fail.
+/// Why the name is taken: one look tells what the disk shows from what is hidden, which makes the call fail.
 fn why_taken<D: Disk>(
     disk: &D,
     cache: &OpenCache<D::Handle>,
@@ -41,7 +42,7 @@ fn why_taken<D: Disk>(
 }
 
 /// Why nothing was made at the name.
-fn why_not_made<D: Disk>(
+pub fn why_not_made<D: Disk>(
     disk: &D,
     cache: &OpenCache<D::Handle>,
     entry: &Entry<'_, D::Handle>,

@@ -16,9 +16,10 @@ use crate::opened::Entry;
 use crate::renaming::{go_both, see_target, why_not_moved};
 use crate::stat::see;
 use crate::trouble::{Reason, Trouble, failure};
-use backing::{Answer, Kind};
+use backing::Answer;
 use disk::Disk;
 use paths::Path;
+use payload::Kind;
 
 /// Whether what is kept there is reached by its name.
 fn is_by_name<D: Disk>(
@@ -154,7 +155,7 @@ fn note_move<D: Disk>(
     ensures { cache.new.cache ≡ cache.old.cache }
 {
     let is_done = matches!(moved, Ok(_) | Err(Trouble::Failed(_)));
-    if !is_done || matches!(kind, Kind::File) {
+    if !is_done || !matches!(kind, Kind::Folder) {
         return;
     }
     disk.note_move();

@@ -3,17 +3,17 @@
 ghost use Rattle.std.specs.Prelude.{◌≡◌, ◌⊎◌, ◌++◌, ◌∷◌, [], Some, None, IfNone, IfSome, IfOk, IfErr};
 ghost use Rattle.paths.specs.Prefixes.{Name, Names};
 ghost use Rattle.backing.specs.Tree.{Tree};
-ghost use Rattle.backing.specs.declared.call.Kind.TheVariants as kinds;
+ghost use Rattle.payload.specs.declared.attributes.Kind.TheVariants as kinds;
 ghost use Rattle.disk_folder.specs.declared.opened.Held.{Held as HeldOf};
 ghost use Rattle.disk_folder.specs.Troubles.{IsFailure};
 
 use crate::opened::{Entry, Held, Open};
 use crate::trouble::Trouble;
-use backing::Kind;
 use disk::FileId;
 use errno::ENOMEM;
 use path_cache::{PathCache, Place};
 use paths::Name;
+use payload::Kind;
 
 /// How long a folder is used without a look at it, in milliseconds: as long as a client trusts a name.
 const TRUSTED: u64 = 1_000;
@@ -101,7 +101,7 @@ impl<H: Drop> OpenCache<H> {
     {
         let place = self.child(folder, name)?;
         match self.cache.value(place).kind {
-            Kind::File => None,
+            Kind::File | Kind::Link | Kind::Special(_) => None,
             Kind::Folder => {
                 if self.is_trusted(place) {
                     Some(place)

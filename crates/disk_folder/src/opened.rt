@@ -2,10 +2,10 @@
 
 ghost use Rattle.std.specs.Prelude.{◌≡◌, IsTrue, Some};
 
-use backing::Kind;
 use disk::{Access, FileId};
 use path_cache::Place;
 use paths::Name;
+use payload::Kind;
 
 /// A file or folder that is open.
 #[derive(Drop)]

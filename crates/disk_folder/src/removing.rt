@@ -1,4 +1,4 @@
-//! Calls that remove files and folders.
+//! Calls that remove what stands at a path.
 
 ghost use Rattle.std.specs.Prelude.{◌≡◌, ◌++◌, ◌∷◌, [], IfOk};
 ghost use Rattle.paths.specs.Prefixes.{Names};
@@ -14,12 +14,13 @@ use crate::open_cache::OpenCache;
 use crate::opened::Entry;
 use crate::trouble::{Reason, Trouble, failure};
 use crate::walk::{go_above, open_folder};
-use backing::{Answer, Kind};
+use backing::Answer;
 use disk::{Disk, DiskError};
 use errno::{ENOENT, ENOTDIR, ENOTEMPTY};
 use paths::{Name, Path};
+use payload::Kind;
 
-/// Why no file was removed.
+/// Why nothing was removed that is no folder.
 fn why_not_removed(error: DiskError) -> Trouble
     ensures { IsWhyNotRemoved error result }
 {
@@ -30,7 +31,7 @@ fn why_not_removed(error: DiskError) -> Trouble
     }
 }
 
-/// Removes what a look has shown as a file, and closes it.
+/// Removes what a look has shown, which is no folder. A file is closed.
 fn remove_file<D: Disk>(
     disk: &mut D,
     cache: &mut OpenCache<D::Handle>,
@@ -49,7 +50,7 @@ fn remove_file<D: Disk>(
     }
 }
 
-/// Removes the file from an open folder, behind a look: what is hidden is not removed.
+/// Removes what is no folder from an open folder, behind a look: what is hidden is not removed.
 fn remove_in<D: Disk>(
     disk: &mut D,
     cache: &mut OpenCache<D::Handle>,
@@ -63,13 +64,13 @@ fn remove_in<D: Disk>(
     match look_at(disk, cache, entry) {
         Ok(seen) => match seen.kind {
             Kind::Folder => Err(Trouble::Refused(Reason::Folder)),
-            Kind::File => remove_file(disk, cache, entry),
+            Kind::File | Kind::Link | Kind::Special(_) => remove_file(disk, cache, entry),
         },
         Err(trouble) => Err(trouble),
     }
 }
 
-/// Removes the file, which is closed.
+/// Removes what is no folder. A file is closed.
 pub fn remove<D: Disk>(
     disk: &mut D,
     cache: &mut OpenCache<D::Handle>,
@@ -88,7 +89,7 @@ pub fn remove<D: Disk>(
     }
 }
 
-/// A file or a folder stands at the name.
+/// What the disk shows stands at the name.
 fn is_shown<D: Disk>(disk: &D, folder: &D::Handle, name: &Name) -> bool {
     match expect_lawful(name) {
         Ok(()) => match look_in(disk, folder, name) {
@@ -99,7 +100,7 @@ fn is_shown<D: Disk>(disk: &D, folder: &D::Handle, name: &Name) -> bool {
     }
 }
 
-/// A file or a folder stands at one of the names.
+/// What the disk shows stands at one of the names.
 fn shows_any<D: Disk>(disk: &D, folder: &D::Handle, names: &[Name]) -> bool {
     for name in names {
         if is_shown(disk, folder, name) {
@@ -140,7 +141,7 @@ pub fn why_not_empty<D: Disk>(
     }
 }
 
-/// Why the name was not removed as a folder: one look tells a file from what is hidden, which makes the call fail.
+/// Why the name was not removed as a folder: one look tells what is no folder from what is hidden, which makes the call fail.
 fn why_no_dir<D: Disk>(
     disk: &D,
     cache: &OpenCache<D::Handle>,
@@ -151,8 +152,8 @@ fn why_no_dir<D: Disk>(
 {
     match look_only(disk, cache, entry) {
         Ok(seen) => match seen.kind {
-            Kind::File => Trouble::Refused(Reason::NoFolder),
             Kind::Folder => Trouble::Failed(ENOTDIR),
+            Kind::File | Kind::Link | Kind::Special(_) => Trouble::Refused(Reason::NoFolder),
         },
         Err(_) => Trouble::Failed(ENOENT),
     }

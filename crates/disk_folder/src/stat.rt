@@ -15,10 +15,11 @@ use crate::open_cache::OpenCache;
 use crate::opened::Held;
 use crate::trouble::Trouble;
 use crate::walk::go_above;
-use backing::{Answer, Kind};
+use backing::Answer;
 use disk::Disk;
 use path_cache::Place;
 use paths::Path;
+use payload::Kind;
 
 /// One look at the root, which is open.
 fn see_root<D: Disk>(disk: &D, cache: &OpenCache<D::Handle>) -> Result<Seen, Trouble>
@@ -53,7 +54,7 @@ pub fn stat_of(seen: Seen) -> Answer
 {
     let size = match seen.kind {
         Kind::Folder => 0,
-        Kind::File => seen.size,
+        Kind::File | Kind::Link | Kind::Special(_) => seen.size,
     };
     Answer::Stat {
         kind: seen.kind,

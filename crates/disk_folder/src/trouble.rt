@@ -22,6 +22,10 @@ pub enum Reason {
     NoFolder,
     /// A folder stands there.
     Folder,
+    /// Neither a file nor a folder stands there.
+    NoFile,
+    /// No link stands there.
+    NoLink,
     /// It lies below what is to go there.
     Below,
     /// It has names.
@@ -41,6 +45,8 @@ impl Reason {
             Reason::Taken => EEXIST,
             Reason::NoFolder => ENOTDIR,
             Reason::Folder => EISDIR,
+            Reason::NoFile => EINVAL,
+            Reason::NoLink => EINVAL,
             Reason::Below => EINVAL,
             Reason::Names => ENOTEMPTY,
         }

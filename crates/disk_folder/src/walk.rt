@@ -3,7 +3,7 @@
 ghost use Rattle.std.specs.Prelude.{ℕ, ◌≡◌, ◌++◌, ◌∷◌, [], IfOk, IfErr, IfSome, Some};
 ghost use Rattle.paths.specs.Prefixes.{Names};
 ghost use Rattle.path_cache.specs.Cache.{IsAt};
-ghost use Rattle.backing.specs.declared.call.Kind.TheVariants as kinds;
+ghost use Rattle.payload.specs.declared.attributes.Kind.TheVariants as kinds;
 ghost use Rattle.disk_folder.specs.Standing.{AllStand, IsEntry, IsEntryOf, IsFolderAt, IsHeld, IsHeldAt, IsOpenFolder, StandsIn, kind_at};
 ghost use Rattle.disk_folder.specs.Troubles.{IsBarred, IsBlocked, IsFailure, IsStopped};
 
@@ -11,11 +11,11 @@ use crate::look::{expect_lawful, look_at, look_only};
 use crate::open_cache::OpenCache;
 use crate::opened::{Entry, Held, Open};
 use crate::trouble::{Reason, Trouble, failure};
-use backing::Kind;
 use disk::{Access, Disk, DiskError};
 use errno::{EIO, ENOTDIR};
 use path_cache::Place;
 use paths::{Name, Path};
+use payload::Kind;
 
 /// What was opened, with which one it is: one `fstat`.
 pub fn identified<D: Disk>(
@@ -39,7 +39,7 @@ pub fn identified<D: Disk>(
     }
 }
 
-/// Why the name was not opened as a folder: one look tells a file from what is absent.
+/// Why the name was not opened as a folder: one look tells what is no folder from what is absent.
 pub fn why_no_folder<D: Disk>(
     disk: &D,
     cache: &OpenCache<D::Handle>,
@@ -50,8 +50,8 @@ pub fn why_no_folder<D: Disk>(
 {
     match look_only(disk, cache, entry) {
         Ok(seen) => match seen.kind {
-            Kind::File => Trouble::Refused(Reason::NoFolder),
             Kind::Folder => Trouble::Failed(ENOTDIR),
+            Kind::File | Kind::Link | Kind::Special(_) => Trouble::Refused(Reason::NoFolder),
         },
         Err(trouble) => trouble,
     }

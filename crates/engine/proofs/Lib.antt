@@ -10,6 +10,7 @@ pub mod Turns
 pub mod Walking
 pub mod Waiting
 pub mod Unreserved
+pub mod Unserved
 pub mod Carrying
 pub mod HiddenKept
 pub mod Behind

@@ -5,7 +5,7 @@ use Rattle.table_files.specs.declared.data.OpenFile.{OpenFile}
 use Rattle.table_requests.specs.declared.data.Want.{Want}
 use Rattle.table_steps.specs.Answers.{Claim}
 use Rattle.table_steps.specs.declared.data.Begin.TheVariants.{Go, Refused}
-use Rattle.wire.specs.Faults.{IsFirstFault, fault_errno}
+use Rattle.wire.specs.Faults.{IsFirstFault}
 use Rattle.wire.specs.Requests.{IsRequest, opcode_in, unique_in}
 use Rattle.wire.specs.Written.{reply_bytes}
 use Rattle.wire.specs.declared.fault.WireFault.{WireFault}
@@ -15,7 +15,7 @@ use Rattle.wire.specs.declared.reply.ReplyBody.TheVariants.{Failed}
 use Rattle.wire.specs.declared.request.Request.{Request}
 use Rattle.engine.specs.declared.links.Sent.{Sent}
 use Rattle.engine.specs.declared.using.HandleUse.{HandleUse}
-use Rattle.ops.specs.Intents.{Intent, intent}
+use Rattle.ops.specs.Intents.{Intent, intent, refusal_errno}
 use Rattle.ops.specs.Intents as intents
 use Rattle.handles.specs.Calls.{FolderCall}
 use Rattle.engine.specs.Reference.{Attempt, Place, AtBegin, AtScript, AtListing, AtReply, Turn, ForgetsAll, HasNames, IsSaid, IsTold, Says, Serves, RunsRequest, WorksOff, attempt}
@@ -70,17 +70,18 @@ told_later refused meant said is none = subst (λ (place : Option Place). IsTold
 module _ {W L C D : Type 0} (rules : Rules W L) (does : Behaviour C D) where
   -- a frame that is not a request
   pub fault_answered : (frame : List ℕ) (fault : WireFault) (old : Environment W L C D) (link : L) (result : Option Sent) → IsFirstFault frame fault
-      → IfSome result (λ sent. (is_unanswered (opcode_in frame) ≡ false) × rules.sends old.link (reply_bytes (refusal (unique_in frame) (fault_errno fault))) sent link)
+      → IfSome result (λ sent. (is_unanswered (opcode_in frame) ≡ false) × rules.sends old.link (reply_bytes (refusal (unique_in frame) (refusal_errno rules.settings (opcode_in frame) fault))) sent link)
       → IfNone result ((is_unanswered (opcode_in frame) ≡ true) × (link ≡ old.link))
       → WorkedOff rules does frame old result (around link old.served old.at)
   fault_answered frame fault old link (Some sent) is some none =
-      let turn = answering frame None [] (unique_in frame) (Failed (fault_errno fault)) sent in
+      let said = Failed (refusal_errno rules.settings (opcode_in frame) fault) in
+      let turn = answering frame None [] (unique_in frame) said sent in
       record {
         turn = turn;
         frame_is = refl;
         sent_is = refl;
         lives = refl;
-        asks = inr (fault, is, rw some.0 (Failed (fault_errno fault), refl, record { offers = refl; no_call = refl; folders_are = refl; same = refl }));
+        asks = inr (fault, is, rw some.0 (said, refl, record { offers = refl; no_call = refl; folders_are = refl; same = refl }));
         draws = record { makes = refl; keeps = refl };
         passes = some.1;
       }

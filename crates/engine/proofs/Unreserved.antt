@@ -1,22 +1,23 @@
 -- A request begins with a want without reserved names: one with such a name is refused before.
-use Rattle.std.proofs.Common.{ℕ, ◌==◌, ◌<◌, ◌≡◌, Bool, true, false, List, [], ◌∷◌, ◌++◌, Option, Some, None, All, get_or, if◌then◌else◌, refl, sym, ap, ◌∙◌, inl, inr}
+use Rattle.std.proofs.Common.{ℕ, ◌==◌, ◌≡◌, Bool, true, false, List, [], ◌∷◌, Option, Some, None, All, get_or, if◌then◌else◌, length, nat_le, refl, sym, ◌∙◌, inl, inr}
 use Rattle.std.specs.List.{list_any}
 use Rattle.std.proofs.lemmas.Bool.{cases_Bool, true≢false}
-use Rattle.std.proofs.lemmas.List.Elements.{All-cons, All-from_get_or, All-head, All-nil, All-tail}
+use Rattle.std.proofs.lemmas.List.Elements.{All-from_get_or, All-nil}
 use Rattle.std.proofs.lemmas.List.Folds.{list_any_at}
-use Rattle.errno.specs.declared.TheConstants.{EINVAL, EPERM}
+use Rattle.errno.specs.declared.TheConstants.{EINVAL, ENAMETOOLONG, ENOENT, ENOSYS, EPERM}
 use Rattle.paths.specs.Hidden.{is_reserved}
 use Rattle.paths.specs.Prefixes.{Name}
 use Rattle.table_files.specs.declared.data.Access.{Access}
-use Rattle.table_files.specs.declared.data.Need.{Need}
 use Rattle.table_requests.specs.declared.data.Want.TheVariants as wants
 use Rattle.table_hiding.specs.Hiding.{IsUnreserved}
 use Rattle.backing.specs.declared.call.Child.{Child}
+use Rattle.wire.specs.Requests.{opcode_of}
 use Rattle.wire.specs.declared.request.Operation.{Operation}
 use Rattle.wire.specs.declared.request.Operation.TheVariants as ops
 use Rattle.wire.specs.declared.request.Request.{Request}
+use Rattle.terms.specs.declared.settings.AttributeSource.{AttributeSource}
 use Rattle.terms.specs.declared.settings.Settings.{Settings}
-use Rattle.ops.specs.Intents.{Intent, access_of, by_handle, create_intent, has_handle, intended, intent, names_of, needed_to_set, open_intent, refused, rename_intent, reserved_errno, set_intent, sets_other}
+use Rattle.ops.specs.Intents.{Intent, access_of, by_handle, create_intent, has_handle, intended, intent, is_unserved, link_intent, names_of, needed_to_set, open_intent, refused, rename_intent, reserved_errno, set_intent, sets_other}
 use Rattle.ops.specs.Intents as intents
 use Rattle.ops.specs.Pages.{page_want}
 
@@ -42,7 +43,7 @@ either : (b : Bool) (i j : Intent) → IsPlainIntent i → IsPlainIntent j → I
 either true i j one other = one
 either false i j one other = other
 
-set_plain : (s : Settings) (node valid fh : ℕ) → IsPlainIntent (set_intent s node valid fh)
+set_plain : (s : AttributeSource) (node valid fh : ℕ) → IsPlainIntent (set_intent s node valid fh)
 set_plain s node valid fh =
     either (sets_other s valid) (refused EPERM) (if has_handle valid then by_handle node fh (needed_to_set s valid) else intents.Begin (wants.Node node None)) tt
     (either (has_handle valid) (by_handle node fh (needed_to_set s valid)) (intents.Begin (wants.Node node None)) no_names no_names)
@@ -54,6 +55,11 @@ open_plain node (Some access) = no_names
 create_plain : (parent : ℕ) (name : Name) (access : Option Access) → ArePlain (name ∷ []) → IsPlainIntent (create_intent parent name access)
 create_plain parent name None plain = tt
 create_plain parent name (Some access) plain = plain
+
+link_plain : (parent : ℕ) (name : Name) (text : List ℕ) → ArePlain (name ∷ []) → IsPlainIntent (link_intent parent name text)
+link_plain parent name text plain =
+    let link : Intent = intents.Begin (wants.Name parent name) in
+    either (length text == 0) (refused ENOENT) (if nat_le 4096 (length text) then refused ENAMETOOLONG else link) tt (either (nat_le 4096 (length text)) (refused ENAMETOOLONG) link tt plain)
 
 rename_plain : (parent : ℕ) (name : Name) (new_parent flags : ℕ) (new_name : Name) → ArePlain (name ∷ new_name ∷ []) → IsPlainIntent (rename_intent parent name new_parent flags new_name)
 rename_plain parent name new_parent flags new_name plain =
@@ -67,7 +73,9 @@ intended_plain : (s : Settings) (node : ℕ) (operation : Operation) → ArePlai
 intended_plain s node (ops.Lookup name) plain = plain
 intended_plain s node (ops.Forget n) plain = tt
 intended_plain s node ops.GetAttr plain = no_names
-intended_plain s node (ops.SetAttr valid fh size attributes) plain = set_plain s node valid fh
+intended_plain s node (ops.SetAttr valid fh size attributes) plain = set_plain s.attributes node valid fh
+intended_plain s node ops.ReadLink plain = no_names
+intended_plain s node (ops.MakeLink name text) plain = link_plain node name.now text.now plain
 intended_plain s node (ops.MakeDir name mode umask) plain = plain
 intended_plain s node (ops.Unlink name) plain = plain
 intended_plain s node (ops.RemoveDir name) plain = plain
@@ -101,7 +109,12 @@ chosen : (b : Bool) (i j : Intent) → IsPlainIntent i → (b ≡ false → IsPl
 chosen true i j one other = one
 chosen false i j one other = other refl
 
-pub intent_plain : (s : Settings) (q : Request) → IsPlainIntent (intent s q)
-intent_plain s q =
+-- a request whose opcode is served
+served_plain : (s : Settings) (q : Request) → IsPlainIntent (if list_any (λ name. is_reserved name) (names_of q.operation) then refused (reserved_errno q.operation) else intended s q.node q.operation)
+served_plain s q =
     chosen (list_any (λ name. is_reserved name) (names_of q.operation)) (refused (reserved_errno q.operation)) (intended s q.node q.operation) tt
     (λ none. intended_plain s q.node q.operation (none_reserved (names_of q.operation) none))
+
+pub intent_plain : (s : Settings) (q : Request) → IsPlainIntent (intent s q)
+intent_plain s q =
+    either (is_unserved s (opcode_of q.operation)) (refused ENOSYS) (if list_any (λ name. is_reserved name) (names_of q.operation) then refused (reserved_errno q.operation) else intended s q.node q.operation) tt (served_plain s q)

@@ -8,6 +8,7 @@ pub mod Reference
 pub mod Replies
 pub mod Serving
 pub mod Tables
+pub mod Unserved
 pub mod Walks
 pub mod AloneLemmas
 pub mod ReachLemmas

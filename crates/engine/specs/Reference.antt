@@ -39,7 +39,7 @@ use Rattle.ops.specs.declared.intents.FolderUse.{FolderUse}
 use Rattle.ops.specs.declared.intents.FolderUse.TheVariants.{ReadEntries}
 use Rattle.ops.specs.Ahead.{LooksAtEach}
 use Rattle.ops.specs.Pages.{Paged, no_page, page_want}
-use Rattle.ops.specs.Intents.{Intent, intent}
+use Rattle.ops.specs.Intents.{Intent, intent, refusal_errno}
 use Rattle.ops.specs.Intents as intents
 use Rattle.engine.specs.Replies.{TakesMemory}
 use Rattle.ops.specs.Replies.{file_reply, reply_to}
@@ -273,10 +273,11 @@ module _ {W : Type 0} (table : Table W) (settings : Settings) where
   abbrev pub Refuses : ℤ → W → Turn → W → Type 0
   Refuses errno old turn new = Answers (unique_in turn.frame) (Failed errno) old turn new
 
-  -- a frame that is not a request is answered with its fault, if its opcode is answered at all
+  -- A frame that is not a request is answered with its fault, if its opcode is answered at all. Where the session does
+  -- not serve the opcode it is ENOSYS, whatever is wrong with the body, as a request of that opcode is (`intent`).
   abbrev pub Faults : (unanswered : Bool) → WireFault → W → Turn → W → Type 0
   Faults true fault old turn new = IsSilent turn × (new ≡ old)
-  Faults false fault old turn new = Refuses (fault_errno fault) old turn new
+  Faults false fault old turn new = Refuses (refusal_errno settings (opcode_in turn.frame) fault) old turn new
 
   abbrev pub Asks : W → Turn → W → Type 0
   Asks old turn new =

@@ -171,7 +171,7 @@ pub record RepliesTaken {L : Type 0} (sends : L → List ℕ → Sent → L → 
 
 -- ---- requests
 
--- what a request's answer depends on: the table, whose attributes are reported, and what may become of a reply
+-- what a request's answer depends on: the table, what is shown of the folder, and what may become of a reply
 pub record Rules (W L : Type 0) : Type 1 where
   pub table : Table W
   pub settings : Settings

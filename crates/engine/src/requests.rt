@@ -1,7 +1,6 @@
 //! Handling one request of a session.
 
 ghost use Rattle.std.specs.Prelude.{◌≡◌, ◌≤◌, [], true, false, length, List, IfNone, IfSome};
-ghost use Rattle.wire.specs.Faults.{fault_errno};
 ghost use Rattle.wire.specs.Requests.{opcode_in, unique_in, IsFramed};
 ghost use Rattle.wire.specs.Written.{reply_bytes};
 ghost use Rattle.engine.specs.Classes.{is_unanswered};
@@ -11,7 +10,7 @@ ghost use Rattle.wire.specs.Pairs.{pairs_in};
 ghost use Rattle.engine.specs.Replies.{done_reply, refusal, TakesMemory};
 ghost use Rattle.engine.specs.Serving.{around, does};
 ghost use Rattle.engine.specs.Walks.{begun, by_rules, RunsOut, RunsOwned, IsAnswered, IsUntouched, RunsScript, WorkedOff};
-ghost use Rattle.ops.specs.Intents.{want_of};
+ghost use Rattle.ops.specs.Intents.{refusal_errno, want_of};
 ghost use Rattle.ops.specs.Pages.{no_page};
 
 use crate::links::Sent;
@@ -24,7 +23,9 @@ use backing::Calls;
 use errno::ENOMEM;
 use handles::Folders;
 use ledger::{Ledgers, Share};
-use ops::{Intent, Paged, Script, ScriptResult, Settings, Wanted, file_reply, intent_of};
+use ops::{
+    Intent, Paged, Script, ScriptResult, Settings, Wanted, file_reply, intent_of, refusal_errno,
+};
 use std::alloc::Global;
 use std::sync::Wait;
 use table::{Begin, Ticket};
@@ -58,16 +59,23 @@ pub fn reply_done<L: Outlet>(link: &mut L, unique: u64) -> Sent
     link.header(error_frame(unique, 0))
 }
 
-/// Answers a faulty frame, unless its opcode gets no reply.
-fn refuse_frame<L: Outlet>(link: &mut L, frame: &[u8], fault: WireFault) -> Option<Sent>
+/// Answers a faulty frame, unless its opcode gets no reply: by its fault, or, where the session does not serve the
+/// opcode, as any other frame of it.
+fn refuse_frame<L: Outlet>(
+    link: &mut L,
+    settings: Settings,
+    frame: &[u8],
+    fault: WireFault,
+) -> Option<Sent>
     requires { HEADER_LEN ≤ length frame.now }
     ensures some { IfSome result (λ sent. (is_unanswered (opcode_in frame.now) ≡ false)
-        × L.sends link.old (reply_bytes (refusal (unique_in frame.now) (fault_errno fault))) sent link.new) }
+        × L.sends link.old (reply_bytes (refusal (unique_in frame.now) (refusal_errno settings (opcode_in frame.now) fault))) sent link.new) }
     ensures none { IfNone result ((is_unanswered (opcode_in frame.now) ≡ true) × (link.new ≡ link.old)) }
 {
     match header_of(frame) {
         Some(header) if has_reply(header.opcode) => {
-            Some(refuse(link, header.unique, fault.errno()))
+            let errno = refusal_errno(settings, header.opcode, fault);
+            Some(refuse(link, header.unique, errno))
         }
         _ => None,
     }
@@ -271,7 +279,7 @@ impl Session {
         table.attest(); // proof: its law
         let request = match decode(frame) {
             Ok(request) => request,
-            Err(fault) => return refuse_frame(link, frame, fault),
+            Err(fault) => return refuse_frame(link, self.settings, frame, fault),
         };
         match intent_of(self.settings, &request) {
             Intent::Reply(body) => {

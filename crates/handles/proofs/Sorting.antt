@@ -1,5 +1,5 @@
 -- What a listing has in common with the children from which it is made.
-use Rattle.std.proofs.Common.{◌≡◌, ℕ, ◌+◌, Bool, true, false, not, ◌&&◌, cond, is_none, if◌then◌else◌, List, [], ◌∷◌, Option, Some, None, get_or, refl, sym, ap, ◌∙◌, subst, arith, ◌↔◌, IsTrue, codes, inl, inr}
+use Rattle.std.proofs.Common.{◌≡◌, ℕ, ◌+◌, ◌==◌, Bool, true, false, not, ◌&&◌, cond, is_none, if◌then◌else◌, List, [], ◌∷◌, Option, Some, None, get_or, refl, sym, ap, ◌∙◌, subst, arith, ◌↔◌, IsTrue, codes, inl, inr}
 use Rattle.std.proofs.lemmas.Bool.{true≢false, false≢true, and_parts, cases_Bool, cond-true, cond-false}
 use Rattle.std.proofs.lemmas.List.Sums.{sum_by-cons, AllPass-from_list_all, list_all-from_AllPass}
 use Rattle.std.proofs.lemmas.List.Elements.{All-filter, filter_passes}
@@ -11,8 +11,9 @@ use Rattle.std.specs.List.{filter, list_all, sum_by, AllByRecursion, AllPass, Is
 use Rattle.std.specs.List.Sorted.{IsPermutation, IsSorted, IsStrictlySortedBy}
 use Rattle.paths.specs.Prefixes.{Name, is_name}
 use Rattle.paths.proofs.PrefixLemmas.{is_name-true, is_name-yes, is_name-no}
-use Rattle.backing.specs.declared.call.Kind.{Kind}
-use Rattle.backing.specs.declared.call.Kind.TheVariants.{Folder, File}
+use Rattle.payload.specs.declared.attributes.Kind.{Kind}
+use Rattle.payload.specs.declared.attributes.Kind.TheVariants.{Folder, File, Link, Special}
+use Rattle.payload.specs.declared.attributes.Special.TheVariants.{Pipe, Socket, Character, Block}
 use Rattle.backing.specs.declared.call.Child.{Child}
 use Rattle.backing.specs.Calls.{kind_in, EachOnce}
 use Rattle.handles.specs.Names.{is_lawful, by_name}
@@ -76,48 +77,78 @@ once_from_rising ys up = once_from_distinct ys (IsDistinct-from_sorted by_name y
 pub once_from_rises : (xs ys : List Child) → IsPermutation xs ys → IsStrictlySortedBy by_name ys → EachOnce xs
 once_from_rises xs ys moved up = once_from_distinct xs (IsDistinct-IsPermutation same equal_flips ys xs (IsPermutation-sym xs ys moved) (IsDistinct-from_sorted by_name ys up))
 
--- A kind as a number, so that a look-up is a sum, which does not depend on order.
-abbrev number : Kind → ℕ
-number Folder = 1
-number File = 2
+-- A kind as two numbers, so that a look-up is two sums, which do not depend on order.
+abbrev code : Kind → ℕ
+code Folder = 1
+code File = 2
+code Link = 3
+code (Special Pipe) = 4
+code (Special Socket) = 5
+code (Special (Character number)) = 6
+code (Special (Block number)) = 7
 
-abbrev number_in : Option Kind → ℕ
-number_in None = 0
-number_in (Some kind) = number kind
+abbrev device : Kind → ℕ
+device Folder = 0
+device File = 0
+device Link = 0
+device (Special Pipe) = 0
+device (Special Socket) = 0
+device (Special (Character number)) = number
+device (Special (Block number)) = number
 
-abbrev weight : Name → Child → ℕ
-weight name child = cond (is_name child.name name) (number child.kind) 0
+abbrev kind_at : (code device : ℕ) → Option Kind
+kind_at code device =
+    if code == 0 then None else
+    if code == 1 then Some Folder else
+    if code == 2 then Some File else
+    if code == 3 then Some Link else
+    if code == 4 then Some (Special Pipe) else
+    if code == 5 then Some (Special Socket) else
+    if code == 6 then Some (Special (Character device)) else Some (Special (Block device))
 
-kind_from_number : (a b : Option Kind) → number_in a ≡ number_in b → a ≡ b
-kind_from_number None None e = refl
-kind_from_number None (Some Folder) e = absurd (omega (arith, e))
-kind_from_number None (Some File) e = absurd (omega (arith, e))
-kind_from_number (Some Folder) None e = absurd (omega (arith, e))
-kind_from_number (Some Folder) (Some Folder) e = refl
-kind_from_number (Some Folder) (Some File) e = absurd (omega (arith, e))
-kind_from_number (Some File) None e = absurd (omega (arith, e))
-kind_from_number (Some File) (Some Folder) e = absurd (omega (arith, e))
-kind_from_number (Some File) (Some File) e = refl
+abbrev measured : (Kind → ℕ) → Option Kind → ℕ
+measured measure None = 0
+measured measure (Some kind) = measure kind
 
-weighs : (name : Name) (cs : List Child) → EachOnce cs → sum_by (weight name) cs ≡ number_in (kind_in cs name)
-weighs name [] once = refl
-weighs name (c ∷ cs) once = elim (cases_Bool (is_name c.name name)) [
+abbrev weight : (Kind → ℕ) → Name → Child → ℕ
+weight measure name child = cond (is_name child.name name) (measure child.kind) 0
+
+kind_back : (o : Option Kind) → kind_at (measured code o) (measured device o) ≡ o
+kind_back None = refl
+kind_back (Some Folder) = refl
+kind_back (Some File) = refl
+kind_back (Some Link) = refl
+kind_back (Some (Special Pipe)) = refl
+kind_back (Some (Special Socket)) = refl
+kind_back (Some (Special (Character number))) = refl
+kind_back (Some (Special (Block number))) = refl
+
+kind_from_numbers : (a b : Option Kind) → measured code a ≡ measured code b → measured device a ≡ measured device b → a ≡ b
+kind_from_numbers a b codes devices =
+    sym (kind_back a) ∙ (ap (λ (n : ℕ). kind_at n (measured device a)) codes ∙ (ap (λ (n : ℕ). kind_at (measured code b) n) devices ∙ kind_back b))
+
+weighs : (measure : Kind → ℕ) (name : Name) (cs : List Child) → EachOnce cs → sum_by (weight measure name) cs ≡ measured measure (kind_in cs name)
+weighs measure name [] once = refl
+weighs measure name (c ∷ cs) once = elim (cases_Bool (is_name c.name name)) [
   | inl e ↦
       let absent : kind_in cs name ≡ None = subst (λ (n : Name). kind_in cs n ≡ None) (is_name-true c.name name e) once.0 in
-      let rest : sum_by (weight name) cs ≡ 0 = weighs name cs once.1 ∙ ap number_in absent in
-      let own : weight name c ≡ number c.kind = cond-true (is_name c.name name) (number c.kind) 0 e in
-      let whole : sum_by (weight name) (c ∷ cs) ≡ number c.kind = omega (arith, sum_by-cons (weight name) c cs, rest, own) in
-      whole ∙ sym (ap number_in (kind_some c cs name e))
+      let rest : sum_by (weight measure name) cs ≡ 0 = weighs measure name cs once.1 ∙ ap (measured measure) absent in
+      let own : weight measure name c ≡ measure c.kind = cond-true (is_name c.name name) (measure c.kind) 0 e in
+      let whole : sum_by (weight measure name) (c ∷ cs) ≡ measure c.kind = omega (arith, sum_by-cons (weight measure name) c cs, rest, own) in
+      whole ∙ sym (ap (measured measure) (kind_some c cs name e))
   | inr e ↦
-      let own : weight name c ≡ 0 = cond-false (is_name c.name name) (number c.kind) 0 e in
-      let whole : sum_by (weight name) (c ∷ cs) ≡ sum_by (weight name) cs = omega (arith, sum_by-cons (weight name) c cs, own) in
-      whole ∙ (weighs name cs once.1 ∙ sym (ap number_in (kind_none c cs name e)))
+      let own : weight measure name c ≡ 0 = cond-false (is_name c.name name) (measure c.kind) 0 e in
+      let whole : sum_by (weight measure name) (c ∷ cs) ≡ sum_by (weight measure name) cs = omega (arith, sum_by-cons (weight measure name) c cs, own) in
+      whole ∙ (weighs measure name cs once.1 ∙ sym (ap (measured measure) (kind_none c cs name e)))
 ]
+
+same_by : (measure : Kind → ℕ) (xs ys : List Child) → IsPermutation xs ys → EachOnce xs → EachOnce ys → (name : Name) → measured measure (kind_in ys name) ≡ measured measure (kind_in xs name)
+same_by measure xs ys moved one two name = sym (weighs measure name ys two) ∙ (sum_by-IsPermutation (weight measure name) xs ys moved ∙ weighs measure name xs one)
 
 -- Order does not matter to look-ups if each name comes once.
 pub same_kinds : (xs ys : List Child) → IsPermutation xs ys → EachOnce xs → EachOnce ys → (name : Name) → kind_in ys name ≡ kind_in xs name
 same_kinds xs ys moved one two name =
-    kind_from_number (kind_in ys name) (kind_in xs name) (sym (weighs name ys two) ∙ (sum_by-IsPermutation (weight name) xs ys moved ∙ weighs name xs one))
+    kind_from_numbers (kind_in ys name) (kind_in xs name) (same_by code xs ys moved one two name) (same_by device xs ys moved one two name)
 
 abbrev pub shown : Child → Bool
 shown child = not (is_reserved child.name)

@@ -3,7 +3,7 @@ use Rattle.std.specs.Prelude.{ℕ, ◌≡◌, Bool, true, false, not, ◌&&◌, 
 use Rattle.std.specs.List.{AllPass, list_all}
 use Rattle.std.specs.List.Sorted.{IsPermutation, IsStrictlySortedBy}
 use Rattle.paths.specs.Prefixes.{Name}
-use Rattle.backing.specs.declared.call.Kind.TheVariants as kinds
+use Rattle.payload.specs.declared.attributes.Kind.TheVariants as kinds
 use Rattle.backing.specs.declared.call.Child.{Child}
 use Rattle.backing.specs.Calls.{kind_in}
 use Rattle.handles.specs.Names.{is_lawful, by_name}

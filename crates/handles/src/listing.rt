@@ -4,8 +4,9 @@ ghost use Rattle.std.specs.Prelude.{◌≡◌, ◌∷◌, IfOk, codes};
 ghost use Rattle.handles.specs.Listings.{IsMade, IsListing, folder_at};
 
 use crate::names::{drop_reserved, in_order};
-use backing::{Child, Children, Kind};
+use backing::{Child, Children};
 use paths::Name;
+use payload::Kind;
 use std::alloc::{AllocError, Global};
 use std::marker::Model;
 

@@ -1,8 +1,8 @@
 -- What calls came to in a folder that is open itself, or to which a way leads from the nearest one that is.
-use Rattle.std.specs.Prelude.{◌≡◌, ◌++◌, ℕ, List, Option, None, Some, codes}
-use Rattle.backing.specs.declared.call.Kind.TheVariants.{Folder}
+use Rattle.std.specs.Prelude.{◌≡◌, ◌<◌, ◌++◌, ℕ, List, Option, None, Some, codes, length}
+use Rattle.payload.specs.declared.attributes.Kind.TheVariants.{Folder}
 use Rattle.disk.specs.declared.stat.Stat.{Stat}
-use Rattle.linux_disk.specs.Calls.{Done, Looked, LookedAt, Inspected, OpenedAgain, OpenedDir, OpenedDirAt, MadeFile, MadeDir, RemovedFile, RemovedFileAt, RemovedDir, RemovedDirAt, Renamed}
+use Rattle.linux_disk.specs.Calls.{Done, Looked, LookedAt, Inspected, OpenedAgain, OpenedDir, OpenedDirAt, MadeFile, MadeDir, ReadLink, MadeLink, RemovedFile, RemovedFileAt, RemovedDir, RemovedDirAt, Renamed}
 use Rattle.linux_disk.specs.Places.{way_to}
 use Rattle.linux_disk.specs.Ways.{way_in}
 
@@ -77,6 +77,18 @@ pub record WasMadeDir (did : Done → Type 0) (guards : List ℕ → Type 0) (nu
   pub text : List ℕ
   pub reaches : Reaches guards number below name text
   pub done : did (MadeDir text permissions)
+
+-- The text of the link with the name was read, and all of it: the buffer had room for one byte more.
+pub record WasReadLink (did : Done → Type 0) (guards : List ℕ → Type 0) (number : ℕ) (below : Option (List ℕ)) (name target : List ℕ) : Type 0 where
+  pub text : List ℕ
+  pub reaches : Reaches guards number below name text
+  pub done : did (ReadLink text 4096 target)
+  pub whole : length target < 4096
+
+pub record WasMadeLink (did : Done → Type 0) (guards : List ℕ → Type 0) (number : ℕ) (below : Option (List ℕ)) (name target : List ℕ) : Type 0 where
+  pub text : List ℕ
+  pub reaches : Reaches guards number below name text
+  pub done : did (MadeLink text target)
 
 pub record WasRemovedFileAt (did : Done → Type 0) (guards : List ℕ → Type 0) (rest : List ℕ) : Type 0 where
   pub text : List ℕ

@@ -21,6 +21,8 @@ pub data Done : Type 0 where
   SetAt : (text : List ℕ) → (change : Change) → Done
   MadeFile : (text : List ℕ) → (permissions : ℕ) → (stamp : ℕ) → Done
   MadeDir : (text : List ℕ) → (permissions : ℕ) → Done
+  ReadLink : (text : List ℕ) → (room : ℕ) → (target : List ℕ) → Done  -- these bytes, the first ones of the link's own text, were put at the start of a buffer of that length
+  MadeLink : (text : List ℕ) → (target : List ℕ) → Done
   RemovedFile : (dir : ℕ) → (name : List ℕ) → Done
   RemovedFileAt : (text : List ℕ) → Done
   RemovedDir : (dir : ℕ) → (name : List ℕ) → Done

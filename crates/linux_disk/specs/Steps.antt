@@ -1,9 +1,14 @@
 -- What calls of several steps came to.
-use Rattle.std.specs.Prelude.{◌≡◌, ◌≤◌, ◌⊎◌, ◌^◌, ◌++◌, ℕ, List, Option, None, Some, bit_and, bit_or}
+use Rattle.std.specs.Prelude.{◌≡◌, ◌≤◌, ◌⊎◌, ◌^◌, ◌++◌, ℕ, ℤ, pos, List, Option, None, Some, bit_and, bit_or}
+use Rattle.payload.specs.declared.attributes.Kind.{Kind}
+use Rattle.payload.specs.declared.attributes.Kind.TheVariants.{Link, Special}
 use Rattle.disk.specs.declared.stat.Access.{Access}
 use Rattle.disk.specs.declared.stat.Change.{Change}
 use Rattle.disk.specs.declared.stat.Change.TheVariants.{Permissions, Owner, Times}
 use Rattle.disk.specs.declared.stat.Stat.{Stat}
+use Rattle.disk.specs.declared.error.DiskError.{DiskError}
+use Rattle.disk.specs.declared.error.DiskError.TheVariants.{Failed}
+use Rattle.errno.specs.declared.TheConstants.{ENOSYS}
 use Rattle.linux_disk.specs.Below.{HoldsAt, WasLooked}
 use Rattle.linux_disk.specs.Calls.{Done, OpenedFile, Set, SetAt}
 use Rattle.linux_disk.specs.Places.{way_to}
@@ -42,6 +47,29 @@ abbrev pub IsNothing : Change → Type 0
 IsNothing (Permissions bits) = ⊥
 IsNothing (Owner uid gid) = (uid ≡ None) × (gid ≡ None)
 IsNothing (Times accessed modified) = (accessed ≡ None) × (modified ≡ None)
+
+-- A link has no permission bits of its own, and times are set of what is open, as neither a link nor a special file ever is.
+abbrev pub IsUnsupported : Option Kind → Change → Type 0
+IsUnsupported (Some Link) (Permissions bits) = Unit {0}
+IsUnsupported (Some Link) (Times accessed modified) = Unit {0}
+IsUnsupported (Some (Special special)) (Times accessed modified) = Unit {0}
+IsUnsupported kind change = ⊥
+
+-- a look has shown there what it cannot be set of
+pub record WasUnsupported (did : Done → Type 0) (guards : List ℕ → Type 0) (dir number : ℕ) (below : Option (List ℕ)) (name : List ℕ) (change : Change) : Type 0 where
+  pub stat : Stat
+  pub seen : WasLooked did guards dir number below name stat
+  pub unsupported : IsUnsupported stat.kind change
+
+-- The error number that says so: of permission bits EOPNOTSUPP (95), as Linux has it, and of times ENOSYS, since no call is there for them.
+abbrev pub unsupported_errno : Change → ℤ
+unsupported_errno (Permissions bits) = pos 95
+unsupported_errno (Owner uid gid) = pos 95
+unsupported_errno (Times accessed modified) = ENOSYS
+
+-- The failure is the system's, or the one that says so.
+abbrev pub IsWhyNotSet : (did : Done → Type 0) → (guards : List ℕ → Type 0) → (dir number : ℕ) → (below : Option (List ℕ)) → (name : List ℕ) → (change : Change) → (error result : DiskError) → Type 0
+IsWhyNotSet did guards dir number below name change error result = (result ≡ error) ⊎ (WasUnsupported did guards dir number below name change × (result ≡ Failed (unsupported_errno change)))
 
 -- the bits that a new file or folder is asked to have
 abbrev pub bits_of : (default : ℕ) → Option ℕ → ℕ

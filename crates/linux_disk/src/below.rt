@@ -15,10 +15,10 @@ use crate::page::Page;
 use crate::places::{place, place_below, place_way};
 use crate::store::FileStore;
 use crate::way::Way;
-use backing::Kind;
 use disk::{DiskError, Stat};
 use errno::EACCES;
 use paths::Name;
+use payload::Kind;
 
 impl<C: SystemCalls + Drop, S: FileStore<Fd = C::Fd> + Drop> Linux<C, S> {
     /// The text leads to the name in the folder.
@@ -166,7 +166,7 @@ impl<C: SystemCalls + Drop, S: FileStore<Fd = C::Fd> + Drop> Linux<C, S> {
                 let above = again::open_again(&self.calls, dir.fd())?;
                 Ok(Handle::entered(above, way))
             }
-            Some(Kind::File) | None => Err(DiskError::NotFolder),
+            Some(Kind::File | Kind::Link | Kind::Special(_)) | None => Err(DiskError::NotFolder),
         }
     }
 }

@@ -1,8 +1,8 @@
 //! The calls of a system that are made below an open folder.
 
 ghost use Rattle.std.specs.Prelude.{ℕ, List, [], ◌≡◌, ◌<◌, ◌≤◌, ◌^◌, ◌++◌, IsTrue, IfOk, OnOk, codes, length, take};
-ghost use Rattle.disk.specs.Names.{IsLawfulName};
-ghost use Rattle.linux_disk.specs.Calls.{Done, Looked, LookedAt, Inspected, OpenedAgain, OpenedDir, OpenedDirAt, OpenedFile, Read, Wrote, SetLen, Synced, Set, SetAt, MadeFile, MadeDir, RemovedFile, RemovedFileAt, RemovedDir, RemovedDirAt, Renamed};
+ghost use Rattle.disk.specs.Names.{IsLawfulName, IsLinkText};
+ghost use Rattle.linux_disk.specs.Calls.{Done, Looked, LookedAt, Inspected, OpenedAgain, OpenedDir, OpenedDirAt, OpenedFile, Read, Wrote, SetLen, Synced, Set, SetAt, MadeFile, MadeDir, ReadLink, MadeLink, RemovedFile, RemovedFileAt, RemovedDir, RemovedDirAt, Renamed};
 ghost use Rattle.linux_disk.specs.Places.{IsBelow, IsReached, IsSafe, way_to};
 
 use crate::page::Page;
@@ -134,6 +134,20 @@ pub trait SystemCalls {
         requires entered { ∥ entered ∥₁ }
         requires reached { IsReached guards (number dir.now) path.now }
         ensures { OnOk result (did (MadeDir path.now permissions)) };
+
+    /// Puts the text of the link there at the buffer's start, as much as has room: how many bytes. The link is not followed.
+    fn read_link(&self, dir: &Self::Fd, path: &Page, buffer: &mut [u8]) -> Result<usize, DiskError>
+        requires entered { ∥ entered ∥₁ }
+        requires reached { IsReached guards (number dir.now) path.now }
+        ensures within { IfOk result (λ n. n ≤ length buffer.new) }
+        ensures done { IfOk result (λ n. did (ReadLink path.now (length buffer.old) (take n buffer.new))) };
+
+    /// Makes a link with that text where nothing stands.
+    fn make_link(&self, dir: &Self::Fd, path: &Page, target: &[u8]) -> Result<(), DiskError>
+        requires entered { ∥ entered ∥₁ }
+        requires reached { IsReached guards (number dir.now) path.now }
+        requires target { IsLinkText target.now }
+        ensures { OnOk result (did (MadeLink path.now target.now)) };
 
     /// Removes what is no folder.
     fn remove_file(&self, dir: &Self::Fd, name: &[u8]) -> Result<(), DiskError>

@@ -14,6 +14,7 @@ mod keeping;
 mod keys;
 mod libc_calls;
 mod limits;
+mod linking;
 mod linux;
 mod listing;
 mod making;

@@ -1,6 +1,7 @@
 //! Linux's calls, through the C library.
 
 ghost use Rattle.std.specs.Prelude.{◌≡◌, ◌<◌, ◌≤◌, ◌^◌, pos, IfOk, length};
+ghost use Rattle.linux_disk.specs.Stats.{AreShown};
 
 use crate::calls::SystemCalls;
 use crate::changes::{owner_number, time_words};
@@ -19,6 +20,7 @@ use std::alloc::{AllocError, Global};
 use std::os::fd::AsRawFd;
 use std::sync::Arc;
 use std::sync::atomic::{AtomicU64, Ordering};
+use terms::Kinds;
 
 /// The folder of the process's descriptors.
 const DESCRIPTORS: &[u8] = b"/proc/self/fd";
@@ -28,6 +30,8 @@ const DESCRIPTORS: &[u8] = b"/proc/self/fd";
 pub struct LibC {
     /// How many files and folders were opened.
     stamps: Arc<AtomicU64>,
+    /// What a look shows.
+    kinds: Kinds,
     /// By whose rights it acts.
     user: u32,
     /// Which bits it takes of what it makes.
@@ -35,10 +39,11 @@ pub struct LibC {
 }
 
 impl LibC {
-    /// Nothing was opened yet. The mask is read once: `open`, `read` and `close`.
-    pub fn new(alloc: Global) -> Result<LibC, AllocError> {
+    /// Nothing was opened yet, and a look shows these kinds. The mask is read once: `open`, `read` and `close`.
+    pub fn new(alloc: Global, kinds: Kinds) -> Result<LibC, AllocError> {
         Ok(LibC {
             stamps: Arc::new(alloc, AtomicU64::new(0))?,
+            kinds,
             user: libc::geteuid(),
             mask: read_mask(),
         })
@@ -85,6 +90,7 @@ impl SystemCalls for LibC {
     fn share(&self) -> Result<LibC, AllocError> {
         Ok(LibC {
             stamps: Arc::try_clone(&self.stamps)?,
+            kinds: self.kinds,
             user: self.user,
             mask: self.mask,
         })
@@ -150,15 +156,20 @@ impl SystemCalls for LibC {
     }
 
     fn look(&self, dir: &OpenFd, name: &Page) -> Result<Stat, DiskError> {
-        look(dir.fd.as_raw_fd(), name, libc::AT_SYMLINK_NOFOLLOW)
+        look(
+            self.kinds,
+            dir.fd.as_raw_fd(),
+            name,
+            libc::AT_SYMLINK_NOFOLLOW,
+        )
     }
 
     fn look_at(&self, _dir: &OpenFd, path: &Page) -> Result<Stat, DiskError> {
-        look(libc::AT_FDCWD, path, libc::AT_SYMLINK_NOFOLLOW)
+        look(self.kinds, libc::AT_FDCWD, path, libc::AT_SYMLINK_NOFOLLOW)
     }
 
     fn inspect(&self, fd: &OpenFd, none: &Page) -> Result<Stat, DiskError> {
-        look(fd.fd.as_raw_fd(), none, libc::AT_EMPTY_PATH)
+        look(self.kinds, fd.fd.as_raw_fd(), none, libc::AT_EMPTY_PATH)
     }
 
     fn open_file(&self, _dir: &OpenFd, path: &Page, access: Access) -> Result<OpenFd, DiskError> {
@@ -176,6 +187,14 @@ impl SystemCalls for LibC {
 
     fn make_dir(&self, _dir: &OpenFd, path: &Page, permissions: u32) -> Result<(), DiskError> {
         expect_done(unsafe { libc::mkdir(path.c_string(), permissions) })
+    }
+
+    fn read_link(&self, _dir: &OpenFd, path: &Page, buffer: &mut [u8]) -> Result<usize, DiskError> {
+        count_of(unsafe { libc::readlink(path.c_string(), buffer) })
+    }
+
+    fn make_link(&self, _dir: &OpenFd, path: &Page, target: &[u8]) -> Result<(), DiskError> {
+        expect_done(os::symlink(target, path.text()))
     }
 
     fn remove_file(&self, dir: &OpenFd, name: &[u8]) -> Result<(), DiskError> {
@@ -279,7 +298,9 @@ impl SystemCalls for LibC {
 }
 
 /// One `statx`.
-fn look(dir: i32, name: &Page, flags: i32) -> Result<Stat, DiskError> {
+fn look(kinds: Kinds, dir: i32, name: &Page, flags: i32) -> Result<Stat, DiskError>
+    ensures { IfOk result (λ stat. AreShown kinds stat.kind) }
+{
     let mut told = new_statx();
     let ret = unsafe {
         libc::statx(
@@ -291,7 +312,7 @@ fn look(dir: i32, name: &Page, flags: i32) -> Result<Stat, DiskError> {
         )
     };
     expect_done(ret)?;
-    Ok(stat_of(&told))
+    Ok(stat_of(kinds, &told))
 }
 
 /// One `futimens`.

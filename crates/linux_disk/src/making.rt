@@ -15,10 +15,10 @@ use crate::page::Page;
 use crate::stat::PERMISSION_BITS;
 use crate::store::FileStore;
 use crate::way::Way;
-use backing::Kind;
 use disk::{Change, DiskError};
 use errno::EIO;
 use paths::Name;
+use payload::Kind;
 
 /// The bits of a file and of a folder that are made by the process's default.
 const FILE_BITS: u32 = 0o666;
@@ -128,7 +128,7 @@ impl<C: SystemCalls + Drop, S: FileStore<Fd = C::Fd> + Drop> Linux<C, S> {
                 self.set_named(page, dir, name, Change::Permissions(bits))
             }
             // Somebody else has put that in its place.
-            Some(Kind::File) | None => Err(DiskError::Failed(EIO)),
+            Some(Kind::File | Kind::Link | Kind::Special(_)) | None => Err(DiskError::Failed(EIO)),
         }
     }
 

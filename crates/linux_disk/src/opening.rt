@@ -1,10 +1,10 @@
 //! Calls that open or set by a text.
 
-ghost use Rattle.std.specs.Prelude.{◌≡◌, ◌⊎◌, ◌++◌, IsTrue, IfOk, OnOk};
+ghost use Rattle.std.specs.Prelude.{◌≡◌, ◌⊎◌, ◌↔◌, ◌++◌, IsTrue, IfOk, OnOk};
 ghost use Rattle.disk.specs.Names.{IsLawfulName};
 ghost use Rattle.linux_disk.specs.Held.{held_value};
 ghost use Rattle.linux_disk.specs.Below.{WasLooked};
-ghost use Rattle.linux_disk.specs.Steps.{IsNothing, WasOpened, WasSet, WasSetAt, WasSetBelow};
+ghost use Rattle.linux_disk.specs.Steps.{IsNothing, IsUnsupported, IsWhyNotSet, unsupported_errno, WasOpened, WasSet, WasSetAt, WasSetBelow};
 ghost use Rattle.linux_disk.specs.Ways.{way_in};
 
 use crate::again;
@@ -16,7 +16,9 @@ use crate::places::name_alone;
 use crate::store::FileStore;
 use crate::way::Way;
 use disk::{Access, Change, DiskError, Stat};
+use errno::ENOSYS;
 use paths::Name;
+use payload::Kind;
 
 /// Whether nothing is to be set.
 fn is_nothing(change: Change) -> bool
@@ -26,6 +28,37 @@ fn is_nothing(change: Change) -> bool
         Change::Permissions(_) => false,
         Change::Owner { uid, gid } => uid.is_none() && gid.is_none(),
         Change::Times { accessed, modified } => accessed.is_none() && modified.is_none(),
+    }
+}
+
+/// Linux's number for what cannot be done to a file of that kind, which the crate of numbers and the C library's here lack.
+const EOPNOTSUPP: i32 = 95;
+
+/// Whether it cannot be set of what a look shows there: a link has no permission bits of its own, and times are set of what is open, as nothing
+/// but a file or a folder ever is.
+fn is_unsupported(kind: Option<Kind>, change: Change) -> bool
+    ensures { IsTrue result ↔ IsUnsupported kind change }
+{
+    match change {
+        Change::Owner { .. } => false,
+        Change::Permissions(_) => match kind {
+            Some(Kind::Link) => true,
+            Some(Kind::Folder | Kind::File | Kind::Special(_)) | None => false,
+        },
+        Change::Times { .. } => match kind {
+            Some(Kind::Link | Kind::Special(_)) => true,
+            Some(Kind::Folder | Kind::File) | None => false,
+        },
+    }
+}
+
+/// The error number where it cannot be set. Of times it is ENOSYS: `rsync` and `tar` pass over links whose times no call can set.
+fn unsupported_errno(change: Change) -> i32
+    ensures { result ≡ unsupported_errno change }
+{
+    match change {
+        Change::Permissions(_) | Change::Owner { .. } => EOPNOTSUPP,
+        Change::Times { .. } => ENOSYS,
     }
 }
 
@@ -144,6 +177,33 @@ impl<C: SystemCalls + Drop, S: FileStore<Fd = C::Fd> + Drop> Linux<C, S> {
         if is_about_rights(change) {
             self.counts.note_rights();
         }
-        told
+        match told {
+            Ok(()) => Ok(()),
+            Err(error) => Err(self.why_not_set(page, dir, name, change, error)),
+        }
+    }
+
+    /// The failure, or that there is no such thing to be set of what a look shows there: `statx`.
+    fn why_not_set(
+        &self,
+        page: &mut Page,
+        dir: &Handle<C>,
+        name: &Name,
+        change: Change,
+        error: DiskError,
+    ) -> DiskError
+        requires { IsLawfulName name.now }
+        ensures { IsWhyNotSet C.did C.guards (C.stamp (held_value dir.now.held)) (C.number (held_value dir.now.held)) dir.now.below name.now change error result }
+    {
+        match self.look_at(page, dir, name) {
+            Ok(stat) => {
+                if is_unsupported(stat.kind, change) {
+                    DiskError::Failed(unsupported_errno(change))
+                } else {
+                    error
+                }
+            }
+            Err(_) => error,
+        }
     }
 }

@@ -1,9 +1,9 @@
 //! A folder of Linux as a system. Which call of Linux's each one is, the function that it calls says.
 
 ghost use Rattle.std.specs.Prelude.{◌≡◌, ◌⊎◌, ◌≤◌, ◌++◌, false, None, IfOk, OnOk, length, take};
-ghost use Rattle.disk.specs.Names.{IsLawfulName};
+ghost use Rattle.disk.specs.Names.{IsLawfulName, IsLinkText};
 ghost use Rattle.linux_disk.specs.Held.{held_value};
-ghost use Rattle.linux_disk.specs.Below.{EntersDir, HoldsOfOpen, Reaches, WasInspected, WasLooked, WasMadeDir, WasMadeFile, WasRemovedDir, WasRemovedFile, WasRenamed};
+ghost use Rattle.linux_disk.specs.Below.{EntersDir, HoldsOfOpen, Reaches, WasInspected, WasLooked, WasMadeDir, WasMadeFile, WasMadeLink, WasReadLink, WasRemovedDir, WasRemovedFile, WasRenamed};
 ghost use Rattle.linux_disk.specs.Calls.{Done, OpenedAgain, Read, Wrote, SetLen, Synced};
 ghost use Rattle.linux_disk.specs.Listings.{ListsAll};
 ghost use Rattle.linux_disk.specs.Steps.{HasBits, HasBitsAt, IsNothing, ReadsNone, WasOpened, WasSet, WasSetAt, bits_of};
@@ -131,6 +131,16 @@ impl<C: SystemCalls + Drop, S: FileStore<Fd = C::Fd> + Drop> System for Linux<C,
         again::read_at(&self.calls, file.fd(), buffer, offset)
     }
 
+    fn read_link(&self, dir: &Handle<C>, name: &Name) -> Result<Vec<u8>, DiskError>
+        requires { IsLawfulName name.now }
+        ensures { IfOk result (λ target. WasReadLink C.did C.guards (C.number (held_value dir.now.held)) dir.now.below name.now target.items) }
+    {
+        let mut page = page_of(self.alloc, &self.path)?;
+        let told = self.link_text(&mut page, dir, name);
+        self.path.keep(page);
+        told
+    }
+
     /// `lseek`, and `getdents` until there is no name. A folder that could not be read is opened first: `openat`.
     fn list(&self, dir: &Handle<C>) -> Result<Vec<Name>, DiskError>
         ensures { IfOk result (λ names. HoldsOfOpen C.did C.guards (C.stamp (held_value dir.now.held)) (C.number (held_value dir.now.held)) dir.now.below (λ stamp. ListsAll C.begins C.advances stamp names.items)) }
@@ -229,6 +239,18 @@ impl<C: SystemCalls + Drop, S: FileStore<Fd = C::Fd> + Drop> System for Linux<C,
     {
         let mut page = page_of(self.alloc, &self.path)?;
         let told = self.make_dir_at(&mut page, dir, name, permissions);
+        self.counts.note_change();
+        self.path.keep(page);
+        told
+    }
+
+    fn make_link(&mut self, dir: &Handle<C>, name: &Name, text: &[u8]) -> Result<(), DiskError>
+        requires name { IsLawfulName name.now }
+        requires text { IsLinkText text.now }
+        ensures { OnOk result (WasMadeLink C.did C.guards (C.number (held_value dir.now.held)) dir.now.below name.now text.now) }
+    {
+        let mut page = page_of(self.alloc, &self.path)?;
+        let told = self.make_link_at(&mut page, dir, name, text);
         self.counts.note_change();
         self.path.keep(page);
         told

@@ -1,11 +1,12 @@
 //! What a look tells.
 
 ghost use Rattle.std.specs.Prelude.{◌≡◌};
-ghost use Rattle.linux_disk.specs.Stats.{details_of, kind_of, size_of, stat_of, time_of};
+ghost use Rattle.linux_disk.specs.Stats.{details_of, device_of, kind_of, shown, size_of, stat_of, time_of};
 
-use backing::{Details, Kind, Time};
 use disk::{FileId, Stat};
 use libc::types::{statx, statx_timestamp};
+use payload::{Details, Kind, Special, Time};
+use terms::Kinds;
 
 /// The bits of a mode that are permission bits.
 pub const PERMISSION_BITS: u32 = 0o7777;
@@ -13,11 +14,15 @@ pub const PERMISSION_BITS: u32 = 0o7777;
 /// So many minor numbers a device's major number may have.
 const DEVICE_STEP: u64 = 0x1_0000_0000;
 
-/// What the system told.
-pub fn stat_of(told: &statx) -> Stat
-    ensures { result ≡ stat_of told.now }
+/// Where the higher bits of a minor number stand in the number of a device.
+const MINOR_STEP: u32 = 0x10_0000;
+
+/// What the system told, as far as it is shown.
+pub fn stat_of(kinds: Kinds, told: &statx) -> Stat
+    ensures { result ≡ stat_of kinds told.now }
 {
-    let kind = kind_of(told.stx_mode);
+    let device = device_of(told.stx_rdev_major, told.stx_rdev_minor);
+    let kind = shown(kinds, kind_of(told.stx_mode, device));
     Stat {
         kind,
         id: FileId {
@@ -29,14 +34,41 @@ pub fn stat_of(told: &statx) -> Stat
     }
 }
 
-/// By the bits of the mode that say the kind.
-fn kind_of(mode: u16) -> Option<Kind>
-    ensures { result ≡ kind_of mode }
+/// By the bits of the mode that say the kind, and the number that a device has.
+fn kind_of(mode: u16, device: u32) -> Option<Kind>
+    ensures { result ≡ kind_of mode device }
 {
     match u32::from(mode) & libc::S_IFMT {
         libc::S_IFDIR => Some(Kind::Folder),
         libc::S_IFREG => Some(Kind::File),
+        libc::S_IFLNK => Some(Kind::Link),
+        libc::S_IFIFO => Some(Kind::Special(Special::Pipe)),
+        libc::S_IFSOCK => Some(Kind::Special(Special::Socket)),
+        libc::S_IFCHR => Some(Kind::Special(Special::Character(device))),
+        libc::S_IFBLK => Some(Kind::Special(Special::Block(device))),
         _ => None,
+    }
+}
+
+/// A device's two numbers in one, as Linux's `new_encode_dev` has them: the lowest byte of the minor one, then the twelve bits of the
+/// major one, and then the minor one's other twelve.
+fn device_of(major: u32, minor: u32) -> u32
+    ensures { result ≡ device_of major minor }
+{
+    minor % 256 + major % 4_096 * 256 + minor / 256 % 4_096 * MINOR_STEP
+}
+
+/// What is shown of what stands there: with `Plain` nothing but files and folders.
+fn shown(kinds: Kinds, kind: Option<Kind>) -> Option<Kind>
+    ensures { result ≡ shown kinds kind }
+{
+    match kinds {
+        Kinds::All => kind,
+        Kinds::Plain => match kind {
+            Some(Kind::Folder) => Some(Kind::Folder),
+            Some(Kind::File) => Some(Kind::File),
+            Some(Kind::Link | Kind::Special(_)) | None => None,
+        },
     }
 }
 
@@ -46,7 +78,7 @@ fn size_of(kind: Option<Kind>, size: u64) -> u64
 {
     match kind {
         Some(Kind::Folder) => 0,
-        Some(Kind::File) | None => size,
+        Some(Kind::File | Kind::Link | Kind::Special(_)) | None => size,
     }
 }
 

@@ -6,7 +6,10 @@ use Rattle.clap.specs.Words.{App, Row, Rule, Shape, Text, first_of, new_app, new
 use Rattle.clap.specs.declared.builder.action.ArgAction.TheVariants.{Set, SetTrue}
 use Rattle.clap.specs.declared.builder.value_parser.ValueParser.TheVariants.{Signed}
 use Rattle.terms.specs.declared.settings.Settings.{Settings}
-use Rattle.terms.specs.declared.settings.Settings.TheVariants.{Fixed, Host}
+use Rattle.terms.specs.declared.settings.AttributeSource.{AttributeSource}
+use Rattle.terms.specs.declared.settings.AttributeSource.TheVariants.{Fixed, Host}
+use Rattle.terms.specs.declared.settings.Kinds.{Kinds}
+use Rattle.terms.specs.declared.settings.Kinds.TheVariants.{Plain, All}
 use Rattle.terms.specs.declared.terms.Bounds.{Bounds}
 use Rattle.terms.specs.declared.terms.Terms.{Terms}
 use Rattle.mirrord_commands.specs.declared.options.Options.{Options}
@@ -65,25 +68,29 @@ limited nodes files app = with_rule (with_rule (with_rule app (number_rule (code
 abbrev pub counted : (how : Text) → App → App
 counted how app = with_rule app (word_rule (codes "counts") how)
 
+-- with an option for which kinds of files are shown
+abbrev pub shown : (kinds : Text) → App → App
+shown kinds app = with_rule app (word_rule (codes "kinds") kinds)
+
 -- the subcommands
 abbrev pub hex_app : App
-hex_app = bounded (with_rule (new_app (codes "hex")) (flag_rule (codes "sample")))
+hex_app = bounded (shown (codes "files") (with_rule (new_app (codes "hex")) (flag_rule (codes "sample"))))
 
 -- with options for whose attributes are reported, and for a user and a group
 abbrev pub owned : (attributes : Text) → App → App
 owned attributes app = with_rule (with_rule (with_rule app (attributes_rule attributes)) (user (codes "uid"))) (user (codes "gid"))
 
--- with options for all settings of a session, and these defaults
+-- with options for all settings of a session but its kinds, and these defaults
 abbrev pub served : (attributes nodes files counts : Text) → App → App
 served attributes nodes files counts app = bounded (counted counts (limited nodes files (owned attributes app)))
 
 -- for a client of any kind
 abbrev pub served_any : App → App
-served_any = served (codes "fixed") (codes "65536") (codes "4096") (codes "bounded")
+served_any app = served (codes "fixed") (codes "65536") (codes "4096") (codes "bounded") (shown (codes "files") app)
 
--- for a kernel, which respects owners and modes, and forgets lookups late
+-- for a kernel, which knows all kinds of files, respects owners and modes, and forgets lookups late
 abbrev pub served_kernel : App → App
-served_kernel = served (codes "host") (codes "1048576") (codes "65536") (codes "free")
+served_kernel app = served (codes "host") (codes "1048576") (codes "65536") (codes "free") (shown (codes "all") app)
 
 abbrev pub pipe_app : App
 pipe_app = served_any (with_rule (new_app (codes "pipe")) (text_rule (codes "root")))
@@ -175,14 +182,25 @@ is_given id rows = is_some (first_of id rows)
 
 -- whose attributes are reported: fixed ones with an owner, by default user 0 and group 0; or those of the host, which
 -- have their own owners
-abbrev pub AreSettings : List Row → Settings → Type 0
-AreSettings rows (Fixed uid gid) = IsText (codes "attributes") rows (codes "fixed") × IsNumber (codes "uid") rows uid × IsNumber (codes "gid") rows gid
-AreSettings rows Host = IsText (codes "attributes") rows (codes "host") × (is_given (codes "uid") rows ≡ false) × (is_given (codes "gid") rows ≡ false)
+abbrev pub AreAttributes : List Row → AttributeSource → Type 0
+AreAttributes rows (Fixed uid gid) = IsText (codes "attributes") rows (codes "fixed") × IsNumber (codes "uid") rows uid × IsNumber (codes "gid") rows gid
+AreAttributes rows Host = IsText (codes "attributes") rows (codes "host") × (is_given (codes "uid") rows ≡ false) × (is_given (codes "gid") rows ≡ false)
 
--- why the value of an option is refused: attributes or counts are neither of their two words, attributes are those of the
+-- which kinds of files are shown
+abbrev pub AreKinds : List Row → Kinds → Type 0
+AreKinds rows Plain = IsText (codes "kinds") rows (codes "files")
+AreKinds rows All = IsText (codes "kinds") rows (codes "all")
+
+-- what is shown of the folder
+pub record AreSettings (rows : List Row) (settings : Settings) : Type 0 where
+  pub attributes : AreAttributes rows settings.attributes
+  pub kinds : AreKinds rows settings.kinds
+
+-- why the value of an option is refused: attributes, kinds or counts are neither of their two words, attributes are those of the
 -- host although an owner is given, a number is none, or the threads are not 1 to 4
 abbrev pub IsValueRefused : (id : Text) → List Row → OptionsRefusal → Type 0
 IsValueRefused id rows Attributes = (id ≡ codes "attributes") × (text : Text) × IsText id rows text × (text ≢ codes "fixed") × (text ≢ codes "host")
+IsValueRefused id rows refusals.Kinds = (id ≡ codes "kinds") × (text : Text) × IsText id rows text × (text ≢ codes "files") × (text ≢ codes "all")
 IsValueRefused id rows refusals.Counts = (id ≡ codes "counts") × (text : Text) × IsText id rows text × (text ≢ codes "bounded") × (text ≢ codes "free")
 IsValueRefused id rows Owner = (id ≡ codes "attributes") × IsText id rows (codes "host") × ((is_given (codes "uid") rows ≡ true) ⊎ (is_given (codes "gid") rows ≡ true))
 IsValueRefused id rows refusals.Number = (takes_number id ≡ true) × (text : Text) × IsNumberText id rows text × (IsSpelt text → ⊥)
@@ -215,8 +233,8 @@ IsAskedBy name rows (Device root workers single terms) =
     (name ≡ codes "device") × IsText (codes "root") rows root.now
     × AreWorkers rows workers × IsFlag (codes "single") rows single × AreTerms rows terms
 IsAskedBy name rows (Refused refusal) = AreRefused name rows refusal
-IsAskedBy name rows (Hex sample postings) = (name ≢ codes "serve") × (name ≢ codes "pipe") × (name ≢ codes "device") × IsFlag (codes "sample") rows sample × IsNumber (codes "postings") rows postings
+IsAskedBy name rows (Hex sample kinds postings) = (name ≢ codes "serve") × (name ≢ codes "pipe") × (name ≢ codes "device") × IsFlag (codes "sample") rows sample × AreKinds rows kinds × IsNumber (codes "postings") rows postings
 
 abbrev pub IsAsked : Option (Text × List Row) → Options → Type 0
-IsAsked None options = options ≡ Hex false 1048576
+IsAsked None options = options ≡ Hex false Plain 1048576
 IsAsked (Some met) options = IsAskedBy met.0 met.1 options

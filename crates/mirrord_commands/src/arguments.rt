@@ -3,7 +3,7 @@
 ghost use Rattle.std.specs.Prelude.{◌≡◌, codes, false, IfOk, pos};
 ghost use Rattle.clap.specs.Words.{app_of, rule_of};
 ghost use Rattle.clap.specs.declared.builder.command.Command.TheViews.{out-Command as fields_of};
-ghost use Rattle.mirrord_commands.specs.CommandLine.{attributes_rule, bounded, counted, flag_rule, limited, owned, number_rule, served, single_rule, staffed, text_rule, user, word_rule};
+ghost use Rattle.mirrord_commands.specs.CommandLine.{attributes_rule, bounded, counted, flag_rule, limited, owned, number_rule, served, shown, single_rule, staffed, text_rule, user, word_rule};
 
 use clap::builder::ValueParser;
 use clap::{Arg, ArgAction, Command};
@@ -16,6 +16,9 @@ const SINGLE: &str = "One thread does all, one request after another, whatever -
 
 const ATTRIBUTES: &str =
     "Whose attributes are told: fixed (of one owner, without times), or host (those of the folder, which can be set)";
+
+const KINDS: &str =
+    "What is shown of the folder: files (and folders, nothing else), or all (links, pipes, sockets and devices too)";
 
 const UID: &str =
     "The user that each file and folder is told to belong to, if not 0; with fixed attributes";
@@ -177,6 +180,18 @@ fn with_counts<'a>(
     command.arg(word_option(alloc, "counts", "HOW", how, COUNTS))
 }
 
+/// The command, with an option for which kinds of files are shown.
+pub(crate) fn with_kinds<'a>(
+    alloc: Global,
+    kinds: &'a str,
+    command: Command<'a>,
+) -> Result<Command<'a>, AllocError>
+    ensures app { IfOk result (λ c. app_of c ≡ shown kinds.entry.now (app_of command.entry)) }
+    ensures local { (fields_of command.entry).has_globals ≡ false → IfOk result (λ c. (fields_of c).has_globals ≡ false) }
+{
+    command.arg(word_option(alloc, "kinds", "WHICH", kinds, KINDS))
+}
+
 /// The command, with options for whose attributes are reported, and for a user and a group.
 fn with_owner<'a>(
     alloc: Global,
@@ -192,7 +207,7 @@ fn with_owner<'a>(
         .arg(owner_option(alloc, "gid", GID))
 }
 
-/// The command, with options for all settings of a session, and these defaults.
+/// The command, with options for all settings of a session but its kinds, and these defaults.
 pub(crate) fn with_terms<'a>(
     alloc: Global,
     attributes: &'a str,

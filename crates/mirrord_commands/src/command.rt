@@ -5,7 +5,7 @@ ghost use Rattle.clap.specs.Words.{app_of};
 ghost use Rattle.clap.specs.declared.builder.command.Command.TheViews.{out-Command as fields_of};
 ghost use Rattle.mirrord_commands.specs.CommandLine.{bare_app, device_app, hex_app, mirrord_app, pipe_app, serve_app, stream_app};
 
-use crate::arguments::{flag, text_option, with_postings, with_terms, with_workers};
+use crate::arguments::{flag, text_option, with_kinds, with_postings, with_terms, with_workers};
 use clap::Command;
 use std::alloc::{AllocError, Global};
 
@@ -35,7 +35,7 @@ const DEVICE: &str =
 
 const DEVICE_EXAMPLE: &str =
     "examples/mount opens the device, mounts it and starts this program. What is taken where nothing is said \
-    is what a\nkernel as the client wants: attributes of the host, counts that nothing bounds, a million nodes.";
+    is what a\nkernel as the client wants: all kinds of files, attributes of the host, counts that nothing bounds, a million nodes.";
 
 const HEX: &str =
     "Serves a tree in memory: requests are read, and replies written, as lines of hexadecimal digits";
@@ -58,7 +58,8 @@ fn hex_command<'a>(alloc: Global) -> Result<Command<'a>, AllocError>
         .about(HEX)
         .after_help(HEX_EXAMPLE)
         .arg(flag(alloc, "sample", SAMPLE))?;
-    with_postings(alloc, sampled)
+    let shown = with_kinds(alloc, "files", sampled)?;
+    with_postings(alloc, shown)
 }
 
 fn pipe_command<'a>(alloc: Global) -> Result<Command<'a>, AllocError>
@@ -69,7 +70,8 @@ fn pipe_command<'a>(alloc: Global) -> Result<Command<'a>, AllocError>
         .about(PIPE)
         .after_help(PIPE_EXAMPLE)
         .arg(text_option(alloc, "root", "DIR", ROOT))?;
-    with_terms(alloc, "fixed", "65536", "4096", "bounded", rooted)
+    let shown = with_kinds(alloc, "files", rooted)?;
+    with_terms(alloc, "fixed", "65536", "4096", "bounded", shown)
 }
 
 fn serve_command<'a>(alloc: Global) -> Result<Command<'a>, AllocError>
@@ -82,7 +84,8 @@ fn serve_command<'a>(alloc: Global) -> Result<Command<'a>, AllocError>
         .arg(text_option(alloc, "root", "DIR", ROOT))?
         .arg(text_option(alloc, "socket", "PATH", SOCKET))?;
     let staffed = with_workers(alloc, placed)?;
-    with_terms(alloc, "fixed", "65536", "4096", "bounded", staffed)
+    let shown = with_kinds(alloc, "files", staffed)?;
+    with_terms(alloc, "fixed", "65536", "4096", "bounded", shown)
 }
 
 fn device_command<'a>(alloc: Global) -> Result<Command<'a>, AllocError>
@@ -94,7 +97,8 @@ fn device_command<'a>(alloc: Global) -> Result<Command<'a>, AllocError>
         .after_help(DEVICE_EXAMPLE)
         .arg(text_option(alloc, "root", "DIR", ROOT))?;
     let staffed = with_workers(alloc, rooted)?;
-    with_terms(alloc, "host", "1048576", "65536", "free", staffed)
+    let shown = with_kinds(alloc, "all", staffed)?;
+    with_terms(alloc, "host", "1048576", "65536", "free", shown)
 }
 
 /// The program without its subcommands.

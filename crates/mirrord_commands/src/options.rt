@@ -3,7 +3,7 @@
 ghost use Rattle.std.specs.Prelude.{◌≡◌, ◌≢◌, codes, true, map, IfErr, IfOk, MatchOption, MatchResult};
 ghost use Rattle.clap.specs.Words.{Text, fault_of, first_of, found_of, kind_of, rows_of, subcommand_of, subcommand_rows_of, takes, FailsBy};
 ghost use Rattle.clap.specs.declared.error.kind.ErrorKind.TheVariants.{OutOfMemory};
-ghost use Rattle.mirrord_commands.specs.CommandLine.{mirrord_app, AreBounds, AreCounts, AreRefused, AreSettings, AreTerms, AreWorkers, IsAsked, IsAskedBy, IsFlag, IsNumber, IsSpelt, IsText, IsValueRefused, Spells, TextReads, is_given, takes_number};
+ghost use Rattle.mirrord_commands.specs.CommandLine.{mirrord_app, AreAttributes, AreBounds, AreCounts, AreKinds, AreRefused, AreSettings, AreTerms, AreWorkers, IsAsked, IsAskedBy, IsFlag, IsNumber, IsSpelt, IsText, IsValueRefused, Spells, TextReads, is_given, takes_number};
 ghost use Rattle.mirrord_commands.specs.declared.options.Options.TheVariants.{Refused};
 
 use crate::arguments::DEFAULT_POSTINGS;
@@ -12,7 +12,7 @@ use crate::refusals::OptionsRefusal;
 use clap::{ArgMatches, Error};
 use std::alloc::Global;
 use std::convert::AsStr;
-use terms::{Bounds, Counts, Settings, Terms};
+use terms::{AttributeSource, Bounds, Counts, Kinds, Settings, Terms};
 
 /// What a command line asks for.
 #[derive(Clone, Copy, Debug, PartialEq, Eq)]
@@ -27,14 +27,14 @@ pub enum Options<'a> {
         workers: u8,
         /// Whether one thread does everything, whatever the number of threads is.
         single: bool,
-        /// Whose attributes are reported, and how far the table may grow.
+        /// What is shown of the folder, and how far the table may grow.
         terms: Terms,
     },
     /// Serve a folder over standard input and output.
     Pipe {
         /// The folder.
         root: &'a str,
-        /// Whose attributes are reported, and how far the table may grow.
+        /// What is shown of the folder, and how far the table may grow.
         terms: Terms,
     },
     /// Serve a folder over the kernel's FUSE device.
@@ -45,13 +45,15 @@ pub enum Options<'a> {
         workers: u8,
         /// Whether one thread does everything, whatever the number of threads is.
         single: bool,
-        /// Whose attributes are reported, and how far the table may grow.
+        /// What is shown of the folder, and how far the table may grow.
         terms: Terms,
     },
     /// Serve a tree in memory over hexadecimal lines.
     Hex {
         /// Whether the tree has the sample names.
         sample: bool,
+        /// Which kinds of files are shown.
+        kinds: Kinds,
         /// How many postings a period of the ledger may have.
         postings: u32,
     },
@@ -157,8 +159,8 @@ fn is_given(matches: &ArgMatches<'_>, name: &str) -> bool
 }
 
 /// Whose attributes are reported.
-fn settings_in(matches: &ArgMatches<'_>) -> Result<Settings, OptionsRefusal>
-    ensures ok { IfOk result (AreSettings (rows_of (found_of matches.now))) }
+fn attributes_in(matches: &ArgMatches<'_>) -> Result<AttributeSource, OptionsRefusal>
+    ensures ok { IfOk result (AreAttributes (rows_of (found_of matches.now))) }
     // Each subcommand that serves a folder has these options, and `pipe` has no number of workers besides.
     ensures err { IfErr result (AreRefused (codes "pipe") (rows_of (found_of matches.now))) }
 {
@@ -166,7 +168,7 @@ fn settings_in(matches: &ArgMatches<'_>) -> Result<Settings, OptionsRefusal>
     if attributes == "fixed" {
         let uid = number_in(matches, "uid")?;
         let gid = number_in(matches, "gid")?;
-        return Ok(Settings::Fixed { uid, gid });
+        return Ok(AttributeSource::Fixed { uid, gid });
     }
     // Clap could restrict the option to some words, but not let its value exclude other options. So both refusals are
     // made here.
@@ -176,7 +178,33 @@ fn settings_in(matches: &ArgMatches<'_>) -> Result<Settings, OptionsRefusal>
     if is_given(matches, "uid") || is_given(matches, "gid") {
         return Err(OptionsRefusal::Owner);
     }
-    Ok(Settings::Host)
+    Ok(AttributeSource::Host)
+}
+
+/// Which kinds of files are shown.
+fn kinds_in(matches: &ArgMatches<'_>) -> Result<Kinds, OptionsRefusal>
+    ensures ok { IfOk result (AreKinds (rows_of (found_of matches.now))) }
+    ensures err { IfErr result (IsValueRefused (codes "kinds") (rows_of (found_of matches.now))) }
+{
+    let kinds = text_in(matches, "kinds");
+    if kinds == "files" {
+        return Ok(Kinds::Plain);
+    }
+    if kinds != "all" {
+        return Err(OptionsRefusal::Kinds);
+    }
+    Ok(Kinds::All)
+}
+
+/// What is shown of the folder.
+fn settings_in(matches: &ArgMatches<'_>) -> Result<Settings, OptionsRefusal>
+    ensures ok { IfOk result (AreSettings (rows_of (found_of matches.now))) }
+    // Each subcommand that serves a folder has these options, and `pipe` has no number of workers besides.
+    ensures err { IfErr result (AreRefused (codes "pipe") (rows_of (found_of matches.now))) }
+{
+    let attributes = attributes_in(matches)?;
+    let kinds = kinds_in(matches)?;
+    Ok(Settings { attributes, kinds })
 }
 
 /// The settings of a session.
@@ -238,9 +266,11 @@ fn hex_asked<'a>(matches: &ArgMatches<'a>) -> Result<Options<'a>, OptionsRefusal
     ensures ok { IfOk result (λ options. (name : Text) → (name ≢ codes "serve") → (name ≢ codes "pipe") → (name ≢ codes "device") → IsAskedBy name (rows_of (found_of matches.now)) options) }
     ensures err { IfErr result (AreRefused (codes "hex") (rows_of (found_of matches.now))) }
 {
+    let kinds = kinds_in(matches)?;
     let postings = number_in(matches, "postings")?;
     Ok(Options::Hex {
         sample: flag_in(matches, "sample"),
+        kinds,
         postings,
     })
 }
@@ -279,6 +309,7 @@ fn asked<'a>(matches: &ArgMatches<'a>) -> Options<'a>
         Some((name, met)) => asked_by(name, met),
         None => Options::Hex {
             sample: false,
+            kinds: Kinds::Plain,
             postings: DEFAULT_POSTINGS,
         },
     }

@@ -3,12 +3,14 @@
 use std::fmt;
 use std::fmt::Display;
 
-/// Why options are refused. Each comes of an option that the subcommand has: so `hex` is refused only as `Number`, and
-/// `pipe` never as `Workers`.
+/// Why options are refused. Each comes of an option that the subcommand has: so `hex` is refused only as `Kinds` or
+/// `Number`, and `pipe` never as `Workers`.
 #[derive(Clone, Copy, Debug, PartialEq, Eq)]
 pub enum OptionsRefusal {
     /// `--attributes` is neither `fixed` nor `host`.
     Attributes,
+    /// `--kinds` is neither `files` nor `all`.
+    Kinds,
     /// `--counts` is neither `bounded` nor `free`.
     Counts,
     /// An owner is given, although the attributes are to be the host's, which include the owners.
@@ -28,6 +30,7 @@ impl Display for OptionsRefusal {
     fn fmt<W: fmt::Write>(&self, f: &mut fmt::Formatter<W>) -> fmt::Result {
         match self {
             OptionsRefusal::Attributes => f.write_str("--attributes is fixed or host"),
+            OptionsRefusal::Kinds => f.write_str("--kinds is files or all"),
             OptionsRefusal::Counts => f.write_str("--counts is bounded or free"),
             OptionsRefusal::Owner => f.write_str(
                 "with --attributes host there is no --uid and no --gid",

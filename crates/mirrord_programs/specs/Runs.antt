@@ -79,7 +79,7 @@ RunsAsked by (options.Device root workers single terms) device input output outp
     RunsDevice by root (record { workers = workers; single = single }) terms device faults faults' status told × (output' ≡ output)
 RunsAsked by (options.Pipe root terms) device input output output' faults faults' status told = RunsPipe by.disk root terms input output output' faults faults' status told
 RunsAsked by (options.Refused refusal) device input output output' faults faults' status told = IsRefusedBy refusal output output' faults faults' status told
-RunsAsked by (options.Hex sampled postings) device input output output' faults faults' status told = RunsSeeded sampled postings input output output' faults faults' status told
+RunsAsked by (options.Hex sample kinds postings) device input output output' faults faults' status told = RunsSeeded (record { sample = sample; kinds = kinds; postings = postings }) input output output' faults faults' status told
 
 -- The program does what the words ask for if clap accepts them. Otherwise, or if memory is refused, it ends as a
 -- refusal does.

@@ -12,7 +12,7 @@ pub use mirrord_commands::{
     DEFAULT_POSTINGS, Failure, Fault, Options, OptionsRefusal, read_options, tell,
 };
 pub use mirrord_sessions::{
-    Disks, HexLink, LinuxDisks, ProgramEnd, Streams, hex_run, new_tree, pipe_run,
+    Disks, HexLink, LinuxDisks, ProgramEnd, Streams, TreeServed, hex_run, new_tree, pipe_run,
 };
 pub use runs::run;
 pub use standard::Standard;

@@ -10,7 +10,7 @@ use disk::Disk;
 use engine_streams::{ReadRequest, WriteReply};
 use mirrord_commands::{Options, read_options};
 use mirrord_server::Disks;
-use mirrord_sessions::{ProgramEnd, Streams, explain, pipe_run, refuse, run_hex};
+use mirrord_sessions::{ProgramEnd, Streams, TreeServed, explain, pipe_run, refuse, run_hex};
 use std::convert::AsStr;
 use std::fs::File;
 use std::io::{BufRead, Write};
@@ -102,7 +102,18 @@ fn run_asked<
             let streams = Streams { input, output };
             pipe_run(rt, disks, root, terms, streams, faults)
         }
-        Options::Hex { sample, postings } => run_hex(rt, sample, postings, input, output, faults),
+        Options::Hex {
+            sample,
+            kinds,
+            postings,
+        } => {
+            let served = TreeServed {
+                sample,
+                kinds,
+                postings,
+            };
+            run_hex(rt, served, input, output, faults)
+        }
         Options::Refused(refusal) => refuse(refusal, output, faults),
     }
 }

@@ -14,11 +14,13 @@ use std::random::RandomSource;
 use std::sync::Wait;
 use std::thread::Threads;
 use table::Seeds;
+use terms::Kinds;
 
-/// A folder for each worker, all on the same root.
+/// A folder for each worker, all on the same root, of which these kinds of files are shown.
 pub(crate) fn open_folders<H: Wait + RandomSource + AllocGlobal + Clone + Drop>(
     rt: &H,
     root: &str,
+    kinds: Kinds,
     workers: u8,
 ) -> Result<Vec<HostFolder<H>>, Unserved>
     ensures unused { IfOk result (λ folders. folders.items ≡ replicate workers 0) }
@@ -28,7 +30,7 @@ pub(crate) fn open_folders<H: Wait + RandomSource + AllocGlobal + Clone + Drop>(
     let Ok(mut folders) = Vec::with_capacity(rt.alloc(), usize::from(workers)) else {
         return Err(Unserved::Memory);
     };
-    let first = open_first(rt, root)?;
+    let first = open_first(rt, root, kinds)?;
     for opened in 0..workers {
         folders.push_reserved(open_next(rt, &first, workers)?);
     }

@@ -13,6 +13,7 @@ use Rattle.mirrord_sessions.specs.Lines.{Hexing, HasPiece, Receives, Sends, brok
 use Rattle.engine_streams.proofs.Passed.{BreaksLast, breaks_last}
 use Rattle.mirrord_sessions.specs.Known.{known_calls, ServesKnown}
 use Rattle.mirrord_sessions.specs.Runs.{ServesHex, failed_in, unowned}
+use Rattle.mirrord_sessions.specs.declared.runs.TreeServed.{TreeServed}
 use Rattle.mirrord_sessions.specs.Samples.{IsStart}
 
 same_output : (old mid : Hexing) (kept : List ℕ) → old.kept ≡ kept → HasPiece old mid → mid.output ≡ old.output
@@ -49,9 +50,9 @@ written old new (Out frame sent.Broken ∷ events) chain last =
     (n, subst (λ (l : Hexing). Appends old.output l.output (lines_in events ++ take n (line frame))) (sym over) (subst (λ (xs : List ℕ). Appends old.output chain.0.output (xs ++ take n (line frame))) (sym none) chain.1.0.1))
 
 -- a link that was served from a new tree
-pub hex_served : (sampled : Bool) (postings : ℕ) (tree left : MemTree) (old : Hexing) (over : SessionEnd) (new : Hexing) → IsStart sampled tree → ServesKnown (unowned postings) (traffic Receives Sends) (known_calls Gives memory_limit memory_tree failed_in) tree left old over new → ServesHex sampled postings old over new
-hex_served sampled postings tree left old over new start (inl known) =
+pub hex_served : (by : TreeServed) (tree left : MemTree) (old : Hexing) (over : SessionEnd) (new : Hexing) → IsStart by.sample tree → ServesKnown (unowned by.kinds by.postings) (traffic Receives Sends) (known_calls Gives memory_limit memory_tree failed_in) tree left old over new → ServesHex by old over new
+hex_served by tree left old over new start (inl known) =
     let client = known.served.run.client in
     let wrote = written old new (events_of client.steps) client.passes (breaks_last [] client.steps client.kept client.paces) in
     inl (record { tree = tree; start = start; left = left; known = known; part = wrote.0; written = wrote.1 })
-hex_served sampled postings tree left old over new start (inr none) = inr (none.0, none.1)
+hex_served by tree left old over new start (inr none) = inr (none.0, none.1)

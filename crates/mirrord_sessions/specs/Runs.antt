@@ -11,10 +11,12 @@ use Rattle.clap.specs.declared.error.kind.ErrorKind.TheVariants.{OutOfMemory, Di
 use Rattle.engine.specs.Serving.{events_of, traffic}
 use Rattle.engine.specs.declared.ends.SessionEnd.{SessionEnd}
 use Rattle.engine.specs.declared.ends.SessionEnd.TheVariants as end
-use Rattle.terms.specs.declared.settings.Settings.TheVariants.{Fixed}
+use Rattle.terms.specs.declared.settings.AttributeSource.TheVariants.{Fixed}
+use Rattle.terms.specs.declared.settings.Kinds.{Kinds}
 use Rattle.mirrord_sessions.specs.Folders.{ServesFolder}
 use Rattle.mirrord_sessions.specs.Known.{known_calls, IsKnownServed}
 use Rattle.mirrord_sessions.specs.declared.folder.Unserved.{Unserved}
+use Rattle.mirrord_sessions.specs.declared.runs.TreeServed.{TreeServed}
 use Rattle.terms.specs.declared.terms.Terms.{Terms}
 use Rattle.mirrord_commands.specs.declared.faults.Failure.TheVariants.{Stopped, Refused as Refuses}
 use Rattle.mirrord_commands.specs.declared.faults.Fault.TheVariants.{Memory, Seed}
@@ -27,8 +29,8 @@ use Rattle.terms.specs.declared.limits.Counts.TheVariants.{Bounded}
 -- ---- the program `hex`
 
 -- the owner is user 0 and group 0
-abbrev pub unowned : (postings : ℕ) → Terms
-unowned postings = record { settings = Fixed 0 0; bounds = record { nodes = 65536; files = 4096; requests = 64; postings = postings; counts = Bounded } }
+abbrev pub unowned : (kinds : Kinds) → (postings : ℕ) → Terms
+unowned kinds postings = record { settings = record { attributes = Fixed 0 0; kinds = kinds }; bounds = record { nodes = 65536; files = 4096; requests = 64; postings = postings; counts = Bounded } }
 
 -- how often calls of a memory tree have failed
 abbrev pub failed_in : MemTree → ℕ
@@ -36,23 +38,23 @@ failed_in m = m.failed
 
 -- A link of hexadecimal lines is served from a new tree in memory. Its writer is given the replies that were taken, one
 -- line each, then some first part of the line of one that broke it, if one did, and nothing else.
-pub record IsHexServed (sampled : Bool) (postings : ℕ) (old : Hexing) (over : SessionEnd) (new : Hexing) : Type 0 where
+pub record IsHexServed (by : TreeServed) (old : Hexing) (over : SessionEnd) (new : Hexing) : Type 0 where
   pub tree : MemTree
-  pub start : IsStart sampled tree
+  pub start : IsStart by.sample tree
   pub left : MemTree
-  pub known : IsKnownServed (unowned postings) (traffic Receives Sends) (known_calls Gives memory_limit memory_tree failed_in) tree left old over new
+  pub known : IsKnownServed (unowned by.kinds by.postings) (traffic Receives Sends) (known_calls Gives memory_limit memory_tree failed_in) tree left old over new
   pub part : ℕ
   pub written : Appends old.output new.output (lines_in (events_of known.served.run.client.steps) ++ take part (broken_line (events_of known.served.run.client.steps)))
 
 -- the same, unless memory for a tree or a table was refused
-abbrev pub ServesHex : Bool → (postings : ℕ) → Hexing → SessionEnd → Hexing → Type 0
-ServesHex sampled postings old over new = IsHexServed sampled postings old over new ⊎ ((over ≡ end.Memory) × (new ≡ old))
+abbrev pub ServesHex : TreeServed → Hexing → SessionEnd → Hexing → Type 0
+ServesHex by old over new = IsHexServed by old over new ⊎ ((over ≡ end.Memory) × (new ≡ old))
 
 -- its status, and everything that it writes
-pub record RunsHex (sampled : Bool) (postings : ℕ) (input output output' faults faults' : Option (List ℕ)) (status : ℕ) (told : Bool) : Type 0 where
+pub record RunsHex (by : TreeServed) (input output output' faults faults' : Option (List ℕ)) (status : ℕ) (told : Bool) : Type 0 where
   pub over : SessionEnd
   pub last : Hexing
-  pub serves : ServesHex sampled postings (unread input output) over last
+  pub serves : ServesHex by (unread input output) over last
   pub output_is : output' ≡ last.output
   pub status_is : status ≡ exit_of (failure_of over last.cause)
   pub tells : Tells (failure_of over last.cause) told faults faults'
@@ -63,9 +65,9 @@ pub record HasNoSeed (output output' faults faults' : Option (List ℕ)) (status
   pub status_is : status ≡ 4
   pub tells : Tells (Some (Stopped Seed)) told faults faults'
 
-abbrev pub RunsSeeded : (sampled : Bool) → (postings : ℕ) → (input output output' faults faults' : Option (List ℕ)) → (status : ℕ) → (told : Bool) → Type 0
-RunsSeeded sampled postings input output output' faults faults' status told =
-    RunsHex sampled postings input output output' faults faults' status told ⊎ HasNoSeed output output' faults faults' status told
+abbrev pub RunsSeeded : TreeServed → (input output output' faults faults' : Option (List ℕ)) → (status : ℕ) → (told : Bool) → Type 0
+RunsSeeded by input output output' faults faults' status told =
+    RunsHex by input output output' faults faults' status told ⊎ HasNoSeed output output' faults faults' status told
 
 -- ---- the program `pipe`
 

@@ -10,6 +10,7 @@ use disk::{Disk, DiskError, Unknown};
 use errno::ENOMEM;
 use linux_disk::{LibC, Linux, NoFiles, OpenFd, StartError, room_for_open};
 use std::alloc::Global;
+use terms::Kinds;
 
 /// A system whose folders are served, each as a disk.
 pub trait Disks {
@@ -19,8 +20,8 @@ pub trait Disks {
     /// How many of its files and folders may be kept open.
     fn capacity(&self) -> usize;
 
-    /// The folder at the path.
-    fn open(&self, path: &str) -> Result<Self::Disk, Unserved>
+    /// The folder at the path, of which these kinds of files are shown.
+    fn open(&self, path: &str, kinds: Kinds) -> Result<Self::Disk, Unserved>
         ensures { IfErr result (λ why. why ≢ NoSocket) };
 }
 
@@ -43,8 +44,12 @@ impl Disks for LinuxDisks {
         room_for_open()
     }
 
-    fn open(&self, path: &str) -> Result<Unknown<Linux<LibC, NoFiles<OpenFd>>>, Unserved> {
-        let Ok(calls) = LibC::new(self.alloc) else {
+    fn open(
+        &self,
+        path: &str,
+        kinds: Kinds,
+    ) -> Result<Unknown<Linux<LibC, NoFiles<OpenFd>>>, Unserved> {
+        let Ok(calls) = LibC::new(self.alloc, kinds) else {
             return Err(Unserved::Memory);
         };
         match Linux::open(calls, NoFiles::new(), self.alloc, path) {

@@ -23,7 +23,7 @@ pub use folder::{
 pub use hexadecimal::HexLink;
 pub use hosting::{Finished, serve_alone, serve_known};
 pub use refused::{explain, refuse};
-pub use runs::{Streams, hex_run, pipe_run, run_hex};
+pub use runs::{Streams, TreeServed, hex_run, pipe_run, run_hex};
 pub use samples::new_tree;
 pub use socket::{RECEIVED, serve_socket};
 pub use socket_file::SocketFile;

@@ -18,14 +18,28 @@ use std::io::{BufRead, Read, Write};
 use std::random::RandomSource;
 use std::sync::Wait;
 use table::Seeds;
-use terms::{Bounds, Settings, Terms};
+use terms::{AttributeSource, Bounds, Kinds, Settings, Terms};
+
+/// A tree in memory, and how it is served.
+#[derive(Clone, Copy, Debug, PartialEq, Eq)]
+pub struct TreeServed {
+    /// Whether it has the sample names.
+    pub sample: bool,
+    /// Which kinds of files are shown.
+    pub kinds: Kinds,
+    /// How many postings a period of the ledger may have.
+    pub postings: u32,
+}
 
 /// The settings for a tree in memory: its owner is user 0 and group 0.
-fn unowned(postings: u32) -> Terms
-    ensures { result ≡ unowned postings }
+fn unowned(kinds: Kinds, postings: u32) -> Terms
+    ensures { result ≡ unowned kinds postings }
 {
     Terms {
-        settings: Settings::Fixed { uid: 0, gid: 0 },
+        settings: Settings {
+            attributes: AttributeSource::Fixed { uid: 0, gid: 0 },
+            kinds,
+        },
         bounds: Bounds {
             postings,
             ..Bounds::default()
@@ -37,35 +51,33 @@ fn unowned(postings: u32) -> Terms
 fn serve_new<H: Wait, I: BufRead + Drop, O: Write + Drop>(
     rt: &H,
     alloc: Global,
-    sample: bool,
-    postings: u32,
+    served: TreeServed,
     seeds: Seeds,
     link: &mut HexLink<I, O>,
 ) -> SessionEnd
-    ensures { ServesHex sample postings link.old result link.new }
+    ensures { ServesHex served link.old result link.new }
 {
-    let Ok(tree) = new_tree(alloc, sample) else {
+    let Ok(tree) = new_tree(alloc, served.sample) else {
         return SessionEnd::Memory;
     };
-    serve_known(rt, alloc, seeds, tree, link, unowned(postings)).end
+    let terms = unowned(served.kinds, served.postings);
+    serve_known(rt, alloc, seeds, tree, link, terms).end
 }
 
-/// Serves a tree in memory over hexadecimal lines: the program `hex` without its command line. A period of the ledger
-/// may have `postings` postings.
+/// Serves a tree in memory over hexadecimal lines: the program `hex` without its command line.
 pub fn hex_run<H: Wait, I: BufRead + Drop, O: Write + Drop, F: Write>(
     rt: &H,
     alloc: Global,
-    sample: bool,
-    postings: u32,
+    served: TreeServed,
     seeds: Seeds,
     input: I,
     output: O,
     faults: &mut F,
 ) -> ProgramEnd<O>
-    ensures { RunsHex sample postings (I.remaining input) (O.contents output) (O.contents result.output) (F.contents faults.old) (F.contents faults.new) result.status result.told }
+    ensures { RunsHex served (I.remaining input) (O.contents output) (O.contents result.output) (F.contents faults.old) (F.contents faults.new) result.status result.told }
 {
     let mut link = HexLink::new(alloc, input, output);
-    let end = serve_new(rt, alloc, sample, postings, seeds, &mut link);
+    let end = serve_new(rt, alloc, served, seeds, &mut link);
     let failure = failure_of(end, link.cause());
     let told = tell_any(faults, failure);
     ProgramEnd {
@@ -78,13 +90,12 @@ pub fn hex_run<H: Wait, I: BufRead + Drop, O: Write + Drop, F: Write>(
 /// The program `hex` without its command line, with seeds of its own.
 pub fn run_hex<H: Wait + RandomSource + AllocGlobal, I: BufRead + Drop, O: Write + Drop, F: Write>(
     rt: &H,
-    sample: bool,
-    postings: u32,
+    served: TreeServed,
     input: I,
     output: O,
     faults: &mut F,
 ) -> ProgramEnd<O>
-    ensures { RunsSeeded sample postings (I.remaining input) (O.contents output) (O.contents result.output) (F.contents faults.old) (F.contents faults.new) result.status result.told }
+    ensures { RunsSeeded served (I.remaining input) (O.contents output) (O.contents result.output) (F.contents faults.old) (F.contents faults.new) result.status result.told }
 {
     let Ok(seeds) = Seeds::new(rt) else {
         let told = tell(faults, Failure::Stopped(Fault::Seed));
@@ -94,16 +105,7 @@ pub fn run_hex<H: Wait + RandomSource + AllocGlobal, I: BufRead + Drop, O: Write
             output,
         };
     };
-    hex_run(
-        rt,
-        rt.alloc(),
-        sample,
-        postings,
-        seeds,
-        input,
-        output,
-        faults,
-    )
+    hex_run(rt, rt.alloc(), served, seeds, input, output, faults)
 }
 
 /// The name of the input of `pipe`.

@@ -87,6 +87,6 @@ pub fn serve_socket<
     ensures { ServesSocket (claims D.honest D.tree D.has_set D.has_synced) terms result }
 {
     // The folder is opened before the socket is made, so that a bad folder leaves no file.
-    let (folder, seeds) = open_seeded(rt, disks, root)?;
+    let (folder, seeds) = open_seeded(rt, disks, root, terms.settings.kinds)?;
     serve_at(rt, folder, seeds, terms, path)
 }

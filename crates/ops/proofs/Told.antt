@@ -13,7 +13,7 @@ use Rattle.wire.specs.Written.{written}
 use Rattle.wire.specs.declared.dirents.TheConstants.{NO_INO}
 use Rattle.wire.proofs.Listed.{given_len, length-dirent, plus_parts}
 use Rattle.ops.specs.Folders.{names_bytes}
-use Rattle.ops.specs.Replies.{entries_bytes, first, kind_of, plus_entry, plus_from}
+use Rattle.ops.specs.Replies.{entries_bytes, first, plus_entry, plus_from}
 use Rattle.ops.specs.declared.findings.FoundFile.{FoundFile}
 use Rattle.terms.specs.declared.settings.Settings.{Settings}
 
@@ -24,7 +24,7 @@ filled n = omega arith
 pub length-names : (at : ℕ) (cs : List Child) → length (names_bytes at cs) ≡ bytes_of false cs
 length-names at [] = refl
 length-names at (c ∷ cs) =
-    let d : Dirent = record { ino = NO_INO; next = at + 1; kind = kind_of c.kind; name = c.name } in
+    let d : Dirent = record { ino = NO_INO; next = at + 1; kind = c.kind; name = c.name } in
     omega (arith, length-append (dirent_bytes d) (names_bytes (at + 1) cs), length-dirent d, filled (24 + length c.name), sum_by-cons (padded false) c cs, length-names (at + 1) cs)
 
 -- ---- the same with the node of each

@@ -20,7 +20,7 @@ use Rattle.ops.specs.declared.telling.ReplyKind.TheVariants as telling
 use Rattle.wire.specs.declared.request.Operation.{Operation}
 use Rattle.wire.specs.declared.request.Operation.TheVariants as ops
 use Rattle.ops.specs.Looking.{plan_looking}
-use Rattle.ops.specs.Scripts.{Plan, Over, End, failed, hide, list, listed_end, make, move_after, look, open_end, over, read, remove_closed, replace, set_parts, write}
+use Rattle.ops.specs.Scripts.{Plan, Over, End, failed, hide, list, listed_end, make, move_after, look, open_end, over, read, read_link, remove_closed, replace, set_parts, write}
 
 abbrev pub outcome_of : ScriptResult → Outcome
 outcome_of (Error errno) = Failed
@@ -77,6 +77,7 @@ abbrev pub plan_ending : LastCall → Plan
 plan_ending (ending.Look p tells) = look p.now (λ found. Over (told_of tells found))
 plan_ending (ending.List p) = list p.now
 plan_ending (ending.Read p offset size) = read p.now offset size
+plan_ending (ending.ReadLink p) = read_link p.now
 plan_ending (ending.Write p offset piece) = write p.now offset piece.now
 plan_ending (ending.Each looks) = plan_looking looks
 plan_ending (ending.Replace s t left) = replace s.now t.now left.now
@@ -131,6 +132,7 @@ abbrev pub calls_ending : LastCall → ℕ
 calls_ending (ending.Look p tells) = 1
 calls_ending (ending.List p) = 1
 calls_ending (ending.Read p offset size) = 1
+calls_ending (ending.ReadLink p) = 1
 calls_ending (ending.Write p offset piece) = 1
 calls_ending (ending.Each looks) = length looks.left
 calls_ending (ending.Replace s t left) = calls_hiding left.now 1 + 1

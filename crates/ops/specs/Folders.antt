@@ -8,7 +8,6 @@ use Rattle.wire.specs.Dirents.{Dirent, dirent_bytes}
 use Rattle.wire.specs.declared.dirents.TheConstants.{NO_INO}
 use Rattle.wire.specs.declared.reply.ReplyBody.{ReplyBody}
 use Rattle.wire.specs.declared.reply.ReplyBody.TheVariants.{Failed, Data}
-use Rattle.ops.specs.Replies.{kind_of}
 
 -- as many entries as fit from an offset on, or none if the first does not fit
 abbrev pub IsPaged : (plus : Bool) → List Child → (offset size : ℕ) → Option (List Child) → Type 0
@@ -18,7 +17,7 @@ IsPaged plus entries offset size (Some run) = IsLongestRun plus size (drop offse
 -- entries from an index on, each with the offset of the next one; no node is given
 abbrev pub dirents_from : ℕ → List Child → List Dirent
 dirents_from at [] = []
-dirents_from at (child ∷ children) = record { ino = NO_INO; next = at + 1; kind = kind_of child.kind; name = child.name } ∷ dirents_from (at + 1) children
+dirents_from at (child ∷ children) = record { ino = NO_INO; next = at + 1; kind = child.kind; name = child.name } ∷ dirents_from (at + 1) children
 
 abbrev pub names_bytes : ℕ → List Child → List ℕ
 names_bytes at children = flat_map dirent_bytes (dirents_from at children)

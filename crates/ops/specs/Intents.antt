@@ -1,8 +1,8 @@
 -- What a request needs before its script can run.
-use Rattle.std.specs.Prelude.{ℕ, ℤ, ◌+◌, ◌*◌, ◌^◌, ◌%◌, ◌==◌, nat_le, Bool, true, false, if◌then◌else◌, List, [], ◌∷◌, Option, Some, None}
+use Rattle.std.specs.Prelude.{ℕ, ℤ, ◌+◌, ◌*◌, ◌^◌, ◌%◌, ◌==◌, ◌&&◌, ◌||◌, nat_le, Bool, true, false, if◌then◌else◌, List, [], ◌∷◌, length, Option, Some, None}
 use Rattle.std.specs.Int.{bit_at}
 use Rattle.std.specs.List.{list_any}
-use Rattle.errno.specs.declared.TheConstants.{EPERM, ENOENT, EINVAL}
+use Rattle.errno.specs.declared.TheConstants.{EPERM, ENOENT, EINVAL, ENAMETOOLONG, ENOSYS}
 use Rattle.table_files.specs.declared.data.Access.{Access}
 use Rattle.table_files.specs.declared.data.Access.TheVariants.{Reading, Writing, Both}
 use Rattle.table_files.specs.declared.data.Need.{Need}
@@ -12,7 +12,12 @@ use Rattle.table_requests.specs.declared.data.Want.TheVariants as wants
 use Rattle.paths.specs.Hidden.{is_reserved}
 use Rattle.wire.specs.declared.reply.ReplyBody.{ReplyBody}
 use Rattle.wire.specs.declared.reply.ReplyBody.TheVariants.{Failed, StatFs}
+use Rattle.wire.specs.Faults.{fault_errno}
 use Rattle.wire.specs.Pairs.{pairs_in}
+use Rattle.wire.specs.Requests.{opcode_of}
+use Rattle.wire.specs.declared.fault.WireFault.{WireFault}
+use Rattle.wire.specs.declared.fault.WireFault.TheVariants as faults
+use Rattle.wire.specs.declared.opcode.TheConstants.{READLINK, SYMLINK}
 use Rattle.wire.specs.declared.pairs.ForgetOne.{ForgetOne}
 use Rattle.wire.specs.declared.request.Request.{Request}
 use Rattle.wire.specs.declared.request.Operation.{Operation}
@@ -21,8 +26,11 @@ use Rattle.ops.specs.declared.intents.FolderUse.{FolderUse}
 use Rattle.ops.specs.declared.intents.FolderUse.TheVariants as uses
 use Rattle.ops.specs.declared.intents.Intent.{Intent as Coded}
 use Rattle.ops.specs.declared.intents.Intent.TheVariants as coded
+use Rattle.terms.specs.declared.settings.AttributeSource.{AttributeSource}
+use Rattle.terms.specs.declared.settings.AttributeSource.TheVariants.{Fixed, Host}
+use Rattle.terms.specs.declared.settings.Kinds.{Kinds}
+use Rattle.terms.specs.declared.settings.Kinds.TheVariants as kinds
 use Rattle.terms.specs.declared.settings.Settings.{Settings}
-use Rattle.terms.specs.declared.settings.Settings.TheVariants.{Fixed, Host}
 use Rattle.ops.specs.declared.wanted.Wanted.{Wanted}
 use Rattle.ops.specs.declared.wanted.Wanted.TheVariants as wanted
 
@@ -37,12 +45,28 @@ pub data Intent : Type 0 where
 abbrev pub refused : ℤ → Intent
 refused errno = Reply (Failed errno)
 
+-- ---- links, which not all settings show
+
+abbrev pub hides_links : Kinds → Bool
+hides_links kinds.Plain = true
+hides_links kinds.All = false
+
+-- an opcode of links, where the settings show none
+abbrev pub is_unserved : Settings → (opcode : ℕ) → Bool
+is_unserved s opcode = (opcode == READLINK || opcode == SYMLINK) && hides_links s.kinds
+
+-- the error for a frame with that fault. One that is whole, and whose opcode is not served, is told that alone.
+abbrev pub refusal_errno : Settings → (opcode : ℕ) → WireFault → ℤ
+refusal_errno s opcode faults.Frame = fault_errno faults.Frame
+refusal_errno s opcode fault = if is_unserved s opcode then ENOSYS else fault_errno fault
+
 -- ---- reserved names
 
 -- the names of an operation, and the error if one of them is reserved
 abbrev pub names_of : Operation → List (List ℕ)
 names_of (ops.Lookup name) = name.now ∷ []
 names_of (ops.MakeDir name mode umask) = name.now ∷ []
+names_of (ops.MakeLink name text) = name.now ∷ []
 names_of (ops.Unlink name) = name.now ∷ []
 names_of (ops.RemoveDir name) = name.now ∷ []
 names_of (ops.Rename name new_parent new_name) = name.now ∷ new_name.now ∷ []
@@ -69,12 +93,12 @@ sets_details valid = if valid == 2 ^ 3 * bit_at valid 3 + 2 ^ 6 * bit_at valid 6
 
 -- A bit for a field that is not set: with attributes of the host, bits from 11 on. Bit 10, the time of change, is
 -- ignored there.
-abbrev pub sets_other : Settings → ℕ → Bool
+abbrev pub sets_other : AttributeSource → ℕ → Bool
 sets_other (Fixed uid gid) valid = sets_details valid
 sets_other Host valid = nat_le (2 ^ 11) valid
 
 -- the access that a handle must have: with attributes of the host, writing only if the size is set
-abbrev pub needed_to_set : Settings → ℕ → Need
+abbrev pub needed_to_set : AttributeSource → ℕ → Need
 needed_to_set (Fixed uid gid) valid = need.Writing
 needed_to_set Host valid = if sets_size valid then need.Writing else need.Any
 
@@ -95,6 +119,12 @@ abbrev pub create_intent : ℕ → List ℕ → Option Access → Intent
 create_intent parent name (Some access) = Begin (wants.Create parent name access)
 create_intent parent name None = refused EINVAL
 
+-- a link: its text is not empty, and has fewer than 4,096 bytes
+abbrev pub link_intent : ℕ → List ℕ → (text : List ℕ) → Intent
+link_intent parent name text =
+    if length text == 0 then refused ENOENT else
+    if nat_le 4096 (length text) then refused ENAMETOOLONG else Begin (wants.Name parent name)
+
 -- a move, by the flags of RENAME2: to any name, to a free name, or an exchange
 abbrev pub rename_intent : ℕ → List ℕ → ℕ → ℕ → List ℕ → Intent
 rename_intent parent name new_parent flags new_name =
@@ -106,7 +136,7 @@ rename_intent parent name new_parent flags new_name =
 abbrev pub by_handle : ℕ → ℕ → Need → Intent
 by_handle node fh needed = Begin (wants.Node node (Some (record { fh = fh; need = needed })))
 
-abbrev pub set_intent : Settings → ℕ → ℕ → ℕ → Intent
+abbrev pub set_intent : AttributeSource → ℕ → ℕ → ℕ → Intent
 set_intent s node valid fh =
     if sets_other s valid then refused EPERM else
     if has_handle valid then by_handle node fh (needed_to_set s valid) else Begin (wants.Node node None)
@@ -117,8 +147,10 @@ abbrev pub intended : Settings → ℕ → Operation → Intent
 intended s node (ops.Lookup name) = Begin (wants.Name node name.now)
 intended s node (ops.Forget n) = Forget (record { node = node; nlookup = n } ∷ [])
 intended s node ops.GetAttr = Begin (wants.Node node None)
-intended s node (ops.SetAttr valid fh size attributes) = set_intent s node valid fh
+intended s node (ops.SetAttr valid fh size attributes) = set_intent s.attributes node valid fh
 intended s node (ops.MakeDir name mode umask) = Begin (wants.Name node name.now)
+intended s node ops.ReadLink = Begin (wants.Node node None)
+intended s node (ops.MakeLink name text) = link_intent node name.now text.now
 intended s node (ops.Unlink name) = Begin (wants.Remove node name.now true)
 intended s node (ops.RemoveDir name) = Begin (wants.Remove node name.now false)
 intended s node (ops.Rename name new_parent new_name) = Begin (wants.Move node name.now new_parent new_name.now false)
@@ -141,9 +173,11 @@ intended s node (ops.BatchForget pairs) = Forget (pairs_in pairs.now)
 intended s node (ops.ReadDirPlus fh offset size) = Folder fh (uses.ReadEntries offset size)
 intended s node (ops.Rename2 name new_parent flags new_name) = rename_intent node name.now new_parent flags new_name.now
 
--- Names were checked when the request was read; reserved ones are refused before anything else.
+-- Names were checked when the request was read; reserved ones are refused before anything else that is served.
 abbrev pub intent : Settings → Request → Intent
-intent s q = if list_any (λ name. is_reserved name) (names_of q.operation) then refused (reserved_errno q.operation) else intended s q.node q.operation
+intent s q =
+    if is_unserved s (opcode_of q.operation) then refused ENOSYS else
+    if list_any (λ name. is_reserved name) (names_of q.operation) then refused (reserved_errno q.operation) else intended s q.node q.operation
 
 -- ---- an intent in the code, wherever its names are in memory
 

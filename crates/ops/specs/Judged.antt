@@ -1,11 +1,11 @@
 -- Checking a directory's answers: one that does not fit its call is EIO.
 use Rattle.std.specs.Prelude.{ℕ, ℤ, pos, int_le, nat_le, nat_lt, ◌^◌, ◌&&◌, ◌==◌, Bool, true, false, if◌then◌else◌, List, length}
 use Rattle.errno.specs.declared.TheConstants.{EIO}
-use Rattle.backing.specs.declared.call.Kind.{Kind}
-use Rattle.backing.specs.declared.call.Kind.TheVariants.{Folder, File}
+use Rattle.payload.specs.declared.attributes.Kind.{Kind}
+use Rattle.payload.specs.declared.attributes.Kind.TheVariants.{Folder, File, Link, Special}
 use Rattle.backing.specs.declared.call.Answer.{Answer}
 use Rattle.backing.specs.declared.call.Answer.TheVariants.{Done, Stat, Names, Bytes, Wrote, Fault}
-use Rattle.backing.specs.Calls.{Asked, AskStat, AskList, AskMake, AskMakeDir, AskRemove, AskRemoveDir, AskRename, AskRenameNew, AskExchange, AskRead, AskWrite, AskSetLen, AskSetPermissions, AskSetOwner, AskSetTimes, AskSync}
+use Rattle.backing.specs.Calls.{Asked, AskStat, AskList, AskMake, AskMakeDir, AskMakeLink, AskRemove, AskRemoveDir, AskRename, AskRenameNew, AskExchange, AskRead, AskReadLink, AskWrite, AskSetLen, AskSetPermissions, AskSetOwner, AskSetTimes, AskSync}
 
 -- an error number is 1 to 4,095
 abbrev pub is_errno : ℤ → Bool
@@ -20,23 +20,27 @@ errno_in answer = EIO
 abbrev pub is_sized : Kind → ℕ → Bool
 is_sized Folder size = size == 0
 is_sized File size = true
+is_sized Link size = true
+is_sized (Special special) size = true
 
 -- no more bytes were written than there are, and a reply can say how many, in 32 bits
 abbrev pub is_written : List ℕ → ℕ → Bool
 is_written piece count = nat_le count (length piece) && nat_lt count (2 ^ 32)
 
--- the answer has the kind and shape for its call, and no more than was asked for
+-- the answer has the kind and shape for its call, and no more than was asked for; the text of a link has fewer than 4,096 bytes
 abbrev pub fits : Asked → Answer → Bool
 fits (AskStat p) (Stat kind size details) = is_sized kind size
 fits (AskList p) (Names children) = true
 fits (AskMake p permissions) Done = true
 fits (AskMakeDir p permissions) Done = true
+fits (AskMakeLink p text) Done = true
 fits (AskRemove p) Done = true
 fits (AskRemoveDir p) Done = true
 fits (AskRename s t) Done = true
 fits (AskRenameNew s t) Done = true
 fits (AskExchange s t) Done = true
 fits (AskRead p offset size) (Bytes bytes) = nat_le (length bytes) size
+fits (AskReadLink p) (Bytes text) = nat_lt (length text) 4096
 fits (AskWrite p offset piece) (Wrote count) = is_written piece count
 fits (AskSetLen p size) Done = true
 fits (AskSetPermissions p permissions) Done = true

@@ -3,23 +3,19 @@ use Rattle.std.specs.Prelude.{ℕ, ◌-◌, ◌^◌, ◌==◌, bit_and, if◌the
 use Rattle.std.specs.Int.{bit_at}
 use Rattle.backing.specs.declared.call.NewTime.{NewTime}
 use Rattle.backing.specs.declared.call.NewTime.TheVariants.{Now, At}
-use Rattle.backing.specs.declared.call.Time.{Time}
+use Rattle.payload.specs.declared.attributes.Time.{Time}
 use Rattle.wire.specs.declared.request.NewAttributes.{NewAttributes}
-use Rattle.wire.specs.declared.request.Time.{Time as Told}
 use Rattle.ops.specs.declared.parts.NewParts.{NewParts}
-use Rattle.terms.specs.declared.settings.Settings.{Settings}
-use Rattle.terms.specs.declared.settings.Settings.TheVariants.{Fixed, Host}
+use Rattle.terms.specs.declared.settings.AttributeSource.{AttributeSource}
+use Rattle.terms.specs.declared.settings.AttributeSource.TheVariants.{Fixed, Host}
 
 -- a value counts if its bit of `valid` is set
 abbrev pub counted : {X : Type 0} → (valid bit : ℕ) → X → Option X
 counted valid bit value = if bit_at valid bit == 1 then Some value else None
 
-abbrev pub time_at : Told → Time
-time_at t = record { seconds = t.seconds; nanos = t.nanos }
-
 -- the current time if its bit is set, or else the given time if the bit for that is set
-abbrev pub new_time : (valid bit now_bit : ℕ) → Told → Option NewTime
-new_time valid bit now_bit t = if bit_at valid now_bit == 1 then Some Now else if bit_at valid bit == 1 then Some (At (time_at t)) else None
+abbrev pub new_time : (valid bit now_bit : ℕ) → Time → Option NewTime
+new_time valid bit now_bit t = if bit_at valid now_bit == 1 then Some Now else if bit_at valid bit == 1 then Some (At t) else None
 
 -- the lowest twelve bits of a mode
 abbrev pub permissions_of : ℕ → ℕ
@@ -42,6 +38,6 @@ parts_of valid size new = record {
 abbrev pub unmasked : (mode umask : ℕ) → ℕ
 unmasked mode umask = bit_and (permissions_of mode) (2 ^ 32 - 1 - umask)
 
-abbrev pub made_with : Settings → (mode umask : ℕ) → Option ℕ
+abbrev pub made_with : AttributeSource → (mode umask : ℕ) → Option ℕ
 made_with (Fixed uid gid) mode umask = None
 made_with Host mode umask = Some (unmasked mode umask)

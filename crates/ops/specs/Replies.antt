@@ -3,70 +3,57 @@ use Rattle.std.specs.Prelude.{ℕ, ℤ, ◌+◌, ◌==◌, if◌then◌else◌, 
 use Rattle.std.specs.List.{flat_map}
 use Rattle.errno.specs.declared.TheConstants.{EBADF, EIO, ENFILE}
 use Rattle.backing.specs.declared.call.Child.{Child}
-use Rattle.backing.specs.declared.call.Details.{Details as Seen}
-use Rattle.backing.specs.declared.call.Time.{Time as SeenTime}
-use Rattle.backing.specs.declared.call.Kind.{Kind as Told}
-use Rattle.backing.specs.declared.call.Kind.TheVariants as kinds
 use Rattle.table_files.specs.declared.data.OpenFile.{OpenFile}
 use Rattle.table_requests.specs.declared.data.Given.{Given}
 use Rattle.handles.specs.Names.{is_dot}
 use Rattle.table_steps.specs.Answers.{Answer}
 use Rattle.wire.specs.Dirents.{PlusDirent, plus_bytes}
 use Rattle.wire.specs.declared.reply.Attributes.{Attributes}
-use Rattle.wire.specs.declared.reply.Details.{Details}
-use Rattle.wire.specs.declared.request.Time.{Time}
+use Rattle.payload.specs.declared.attributes.Details.{Details}
+use Rattle.payload.specs.declared.attributes.Time.{Time}
 use Rattle.wire.specs.declared.reply.Entry.{Entry}
-use Rattle.wire.specs.declared.reply.Kind.{Kind}
-use Rattle.wire.specs.declared.reply.Kind.TheVariants.{File, Folder}
+use Rattle.payload.specs.declared.attributes.Kind.{Kind}
+use Rattle.payload.specs.declared.attributes.Kind.TheVariants.{File, Folder, Link, Special}
 use Rattle.wire.specs.declared.reply.ReplyBody.{ReplyBody}
 use Rattle.wire.specs.declared.reply.ReplyBody.TheVariants as body
 use Rattle.ops.specs.declared.findings.FoundFile.{FoundFile}
 use Rattle.ops.specs.declared.findings.ScriptResult.{ScriptResult}
 use Rattle.ops.specs.declared.findings.ScriptResult.TheVariants as findings
+use Rattle.terms.specs.declared.settings.AttributeSource.{AttributeSource}
+use Rattle.terms.specs.declared.settings.AttributeSource.TheVariants.{Fixed, Host}
 use Rattle.terms.specs.declared.settings.Settings.{Settings}
-use Rattle.terms.specs.declared.settings.Settings.TheVariants.{Fixed, Host}
 use Rattle.ops.specs.Pages.{Paged}
 
-abbrev pub kind_of : Told → Kind
-kind_of kinds.Folder = Folder
-kind_of kinds.File = File
-
--- ---- attributes, for each of the two settings
-
-abbrev pub time_of : SeenTime → Time
-time_of t = record { seconds = t.seconds; nanos = t.nanos }
+-- ---- attributes, from each of the two sources
 
 -- the beginning of 1970
 abbrev pub epoch : Time
 epoch = record { seconds = 0; nanos = 0 }
 
--- everyone may enter a folder, and only its owner may change it
-abbrev pub fixed_permissions : Told → ℕ
-fixed_permissions kinds.Folder = 493  -- 0o755
-fixed_permissions kinds.File = 420  -- 0o644
+-- everyone may enter a folder, and only its owner may change it; of a link permissions say nothing
+abbrev pub fixed_permissions : Kind → ℕ
+fixed_permissions Folder = 493  -- 0o755
+fixed_permissions File = 420  -- 0o644
+fixed_permissions Link = 511  -- 0o777
+fixed_permissions (Special special) = 420  -- 0o644
 
 -- a folder has its name, and `.` in itself
-abbrev pub fixed_links : Told → ℕ
-fixed_links kinds.Folder = 2
-fixed_links kinds.File = 1
+abbrev pub fixed_links : Kind → ℕ
+fixed_links Folder = 2
+fixed_links File = 1
+fixed_links Link = 1
+fixed_links (Special special) = 1
 
-abbrev pub fixed_details : (uid gid : ℕ) → Told → Details
-fixed_details uid gid kind = record { permissions = fixed_permissions kind; links = fixed_links kind; uid = uid; gid = gid; accessed = epoch; modified = epoch; changed = epoch }
+-- the inode number is that of the node
+abbrev pub fixed_details : (uid gid node : ℕ) → Kind → Details
+fixed_details uid gid node kind = record { ino = node; permissions = fixed_permissions kind; links = fixed_links kind; uid = uid; gid = gid; accessed = epoch; modified = epoch; changed = epoch }
 
-abbrev pub host_details : Seen → Details
-host_details d = record { permissions = d.permissions; links = d.links; uid = d.uid; gid = d.gid; accessed = time_of d.accessed; modified = time_of d.modified; changed = time_of d.changed }
-
--- the inode number, and the details
-abbrev pub ino_of : Settings → (node : ℕ) → FoundFile → ℕ
-ino_of (Fixed uid gid) node found = node
-ino_of Host node found = found.details.ino
-
-abbrev pub details_of : Settings → FoundFile → Details
-details_of (Fixed uid gid) found = fixed_details uid gid found.kind
-details_of Host found = host_details found.details
+abbrev pub details_of : AttributeSource → (node : ℕ) → FoundFile → Details
+details_of (Fixed uid gid) node found = fixed_details uid gid node found.kind
+details_of Host node found = found.details
 
 abbrev pub attributes_of : Settings → (node : ℕ) → FoundFile → Attributes
-attributes_of s node found = record { ino = ino_of s node found; kind = kind_of found.kind; size = found.size; details = details_of s found }
+attributes_of s node found = record { kind = found.kind; size = found.size; details = details_of s.attributes node found }
 
 abbrev pub entry_of : Settings → FoundFile → Given → Entry
 entry_of s found given = record { node = given.number; generation = given.generation; attributes = attributes_of s given.number found }
@@ -102,8 +89,8 @@ file_reply node (Some file) = if file.number == node then body.Done else body.Fa
 
 -- an entry if something was found and given, otherwise one of zeros, with the listing's kind
 abbrev pub plus_entry : Settings → (next : ℕ) → Child → Option FoundFile → Option Given → PlusDirent
-plus_entry s next child (Some found) (Some given) = record { entry = Some (entry_of s found given); next = next; kind = kind_of found.kind; name = child.name }
-plus_entry s next child found given = record { entry = None; next = next; kind = kind_of child.kind; name = child.name }
+plus_entry s next child (Some found) (Some given) = record { entry = Some (entry_of s found given); next = next; kind = found.kind; name = child.name }
+plus_entry s next child found given = record { entry = None; next = next; kind = child.kind; name = child.name }
 
 -- `.` and `..` have entries of zeros, since they are not looked up
 abbrev pub plus_from : Settings → ℕ → List Child → List (Option FoundFile) → List (Option Given) → List PlusDirent

@@ -1,17 +1,17 @@
 -- What each request asks of the directory, and its result.
 use Rattle.std.specs.Prelude.{ℕ, ℤ, ◌≡◌, ◌-◌, length, Bool, true, false, ◌==◌, if◌then◌else◌, is_some, List, [], ◌∷◌, map, Option, Some, None}
-use Rattle.errno.specs.declared.TheConstants.{EBUSY, EEXIST, EIO, EISDIR, ENOENT, ENOTDIR}
+use Rattle.errno.specs.declared.TheConstants.{EBUSY, EEXIST, EINVAL, EIO, EISDIR, ENOENT, ENOTDIR}
 use Rattle.std.specs.Ordering.{int_eq}
 use Rattle.paths.specs.Prefixes.{Names}
-use Rattle.backing.specs.declared.call.Kind.{Kind}
-use Rattle.backing.specs.declared.call.Kind.TheVariants as kinds
+use Rattle.payload.specs.declared.attributes.Kind.{Kind}
+use Rattle.payload.specs.declared.attributes.Kind.TheVariants as kinds
 use Rattle.backing.specs.declared.call.Answer.{Answer}
 use Rattle.backing.specs.declared.call.Answer.TheVariants as told
 use Rattle.backing.specs.declared.call.Call.{Call}
 use Rattle.backing.specs.declared.call.Child.{Child}
 use Rattle.backing.specs.declared.call.NewTime.{NewTime}
 use Rattle.handles.specs.Listings.{are_lawful}
-use Rattle.backing.specs.Calls.{Asked, asked, AskStat, AskList, AskMake, AskMakeDir, AskRemove, AskRemoveDir, AskRename, AskRenameNew, AskExchange, AskRead, AskWrite, AskSetLen, AskSetPermissions, AskSetOwner, AskSetTimes, AskSync}
+use Rattle.backing.specs.Calls.{Asked, asked, AskStat, AskList, AskMake, AskMakeDir, AskMakeLink, AskRemove, AskRemoveDir, AskRename, AskRenameNew, AskExchange, AskRead, AskReadLink, AskWrite, AskSetLen, AskSetPermissions, AskSetOwner, AskSetTimes, AskSync}
 use Rattle.table_steps.specs.Answers.{Claim}
 use Rattle.table_steps.specs.declared.data.Outcome.{Outcome}
 use Rattle.table_steps.specs.declared.data.Outcome.TheVariants.{Failed, Done, Entry, Entries, Hidden, HiddenMove}
@@ -77,6 +77,10 @@ if_read answer = failed (errno_in answer)
 abbrev pub read : Names → (offset size : ℕ) → Plan
 read p offset size = Ask (AskRead p offset size) if_read
 
+-- the text of a link
+abbrev pub read_link : Names → Plan
+read_link p = Ask (AskReadLink p) if_read
+
 abbrev pub if_written : Answer → Plan
 if_written (told.Wrote count) = over Done (Written count)
 if_written answer = failed (errno_in answer)
@@ -112,10 +116,12 @@ tell_attributes p = look p (λ found. over Done (Attributes found))
 abbrev pub give_file : Names → Plan
 give_file p = look p (λ found. over Entry (NewFile found))
 
--- a folder is not opened as a file
+-- only a file is opened
 abbrev pub open_end : Kind → End
 open_end kinds.Folder = record { outcome = Failed; findings = Error EISDIR }
 open_end kinds.File = record { outcome = Done; findings = Opening }
+open_end kinds.Link = record { outcome = Failed; findings = Error EINVAL }
+open_end (kinds.Special special) = record { outcome = Failed; findings = Error EINVAL }
 
 abbrev pub open_file : Names → Plan
 open_file p = look p (λ found. Over (open_end found.kind))
@@ -177,8 +183,10 @@ move_after s t i = Ask (AskRename s t) (λ answer. if_moved i answer)
 abbrev pub unless_folder : Kind → Plan → Plan
 unless_folder kinds.Folder rest = failed ENOTDIR
 unless_folder kinds.File rest = rest
+unless_folder kinds.Link rest = rest
+unless_folder (kinds.Special special) rest = rest
 
--- A file is moved to the place of an open one, which is hidden first.
+-- A file, or whatever else is no folder, is moved to the place of an open file, which is hidden first.
 abbrev pub replace : Names → Names → List Names → Plan
 replace s t candidates = look s (λ found. unless_folder found.kind (hide t candidates (λ i. move_after s t i)))
 
@@ -244,7 +252,9 @@ abbrev pub plan_of : Settings → Operation → Claim → Plan
 plan_of settings (ops.Lookup name) ticket = at_path ticket.paths (λ p. give_entry p)
 plan_of settings ops.GetAttr ticket = at_path ticket.paths (λ p. tell_attributes p)
 plan_of settings (ops.SetAttr valid fh size attributes) ticket = at_path ticket.paths (λ p. set_parts p (parts_of valid size attributes))
-plan_of settings (ops.MakeDir name mode umask) ticket = at_path ticket.paths (λ p. make (AskMakeDir p (made_with settings mode umask)) (give_entry p))
+plan_of settings (ops.MakeDir name mode umask) ticket = at_path ticket.paths (λ p. make (AskMakeDir p (made_with settings.attributes mode umask)) (give_entry p))
+plan_of settings ops.ReadLink ticket = at_path ticket.paths (λ p. read_link p)
+plan_of settings (ops.MakeLink name text) ticket = at_path ticket.paths (λ p. make (AskMakeLink p text.now) (give_entry p))
 plan_of settings (ops.Unlink name) ticket = at_candidates ticket.paths (λ p candidates. unlink ticket.hide p candidates)
 plan_of settings (ops.RemoveDir name) ticket = at_path ticket.paths (λ p. make (AskRemoveDir p) done)
 plan_of settings (ops.Rename name new_parent new_name) ticket = at_paths ticket.paths (λ s t candidates. rename ticket.same ticket.hide s t candidates)
@@ -253,7 +263,7 @@ plan_of settings (ops.Read fh offset size) ticket = at_path ticket.paths (λ p. 
 plan_of settings (ops.Write fh offset piece) ticket = at_path ticket.paths (λ p. write p offset piece.now)
 plan_of settings (ops.Release fh) ticket = release ticket.last ticket.paths
 plan_of settings (ops.Sync fh) ticket = at_path ticket.paths (λ p. make (AskSync p) done)
-plan_of settings (ops.Create name flags mode umask) ticket = at_path ticket.paths (λ p. make (AskMake p (made_with settings mode umask)) (give_file p))
+plan_of settings (ops.Create name flags mode umask) ticket = at_path ticket.paths (λ p. make (AskMake p (made_with settings.attributes mode umask)) (give_file p))
 plan_of settings ops.OpenDir ticket = at_path ticket.paths (λ p. list p)
 plan_of settings (ops.ReadDirPlus fh offset size) ticket = at_names ticket.paths
 plan_of settings (ops.Rename2 name new_parent flags new_name) ticket = at_paths ticket.paths (λ s t candidates. rename_by flags ticket.same ticket.hide s t candidates)

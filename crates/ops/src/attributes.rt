@@ -1,12 +1,12 @@
-//! The attributes in replies, for each of the two settings.
+//! The attributes in replies, from each of the two sources.
 
 ghost use Rattle.std.specs.Prelude.{◌≡◌};
-ghost use Rattle.ops.specs.Replies.{attributes_of, details_of, epoch, fixed_details, fixed_links, fixed_permissions, host_details, ino_of, kind_of, time_of};
+ghost use Rattle.ops.specs.Replies.{attributes_of, details_of, epoch, fixed_details, fixed_links, fixed_permissions};
 
 use crate::findings::FoundFile;
-use backing::Kind;
-use terms::Settings;
-use wire::{Attributes, Details, Time};
+use payload::{Details, Kind, Time};
+use terms::{AttributeSource, Settings};
+use wire::Attributes;
 
 /// The beginning of 1970.
 const EPOCH: Time = Time {
@@ -14,33 +14,15 @@ const EPOCH: Time = Time {
     nanos: 0,
 };
 
-/// The kind, as a reply has it.
-pub(crate) fn kind_of(kind: Kind) -> wire::Kind
-    ensures { result ≡ kind_of kind }
-{
-    match kind {
-        Kind::Folder => wire::Kind::Folder,
-        Kind::File => wire::Kind::File,
-    }
-}
-
-/// A time, as a reply has it.
-fn time_of(time: backing::Time) -> Time
-    ensures { result ≡ time_of time }
-{
-    Time {
-        seconds: time.seconds,
-        nanos: time.nanos,
-    }
-}
-
-/// The owner may change everything; everyone may read it and enter folders.
+/// The owner may change everything; everyone may read it and enter folders. A link has all bits, as on Linux, where
+/// they say nothing.
 fn fixed_permissions(kind: Kind) -> u32
     ensures { result ≡ fixed_permissions kind }
 {
     match kind {
         Kind::Folder => 0o755,
-        Kind::File => 0o644,
+        Kind::File | Kind::Special(_) => 0o644,
+        Kind::Link => 0o777,
     }
 }
 
@@ -50,15 +32,16 @@ fn fixed_links(kind: Kind) -> u32
 {
     match kind {
         Kind::Folder => 2,
-        Kind::File => 1,
+        Kind::File | Kind::Link | Kind::Special(_) => 1,
     }
 }
 
-/// The details of every node of that kind.
-fn fixed_details(uid: u32, gid: u32, kind: Kind) -> Details
-    ensures { result ≡ fixed_details uid gid kind }
+/// The details of every node of that kind. The inode number is that of the node.
+fn fixed_details(uid: u32, gid: u32, node: u64, kind: Kind) -> Details
+    ensures { result ≡ fixed_details uid gid node kind }
 {
     Details {
+        ino: node,
         permissions: fixed_permissions(kind),
         links: fixed_links(kind),
         uid,
@@ -69,18 +52,13 @@ fn fixed_details(uid: u32, gid: u32, kind: Kind) -> Details
     }
 }
 
-/// The details that the directory reports.
-fn host_details(details: backing::Details) -> Details
-    ensures { result ≡ host_details details }
+/// The details of what was found, as those of that node.
+fn details_of(source: AttributeSource, node: u64, found: FoundFile) -> Details
+    ensures { result ≡ details_of source node found }
 {
-    Details {
-        permissions: details.permissions,
-        links: details.links,
-        uid: details.uid,
-        gid: details.gid,
-        accessed: time_of(details.accessed),
-        modified: time_of(details.modified),
-        changed: time_of(details.changed),
+    match source {
+        AttributeSource::Fixed { uid, gid } => fixed_details(uid, gid, node, found.kind),
+        AttributeSource::Host => found.details,
     }
 }
 
@@ -88,14 +66,9 @@ fn host_details(details: backing::Details) -> Details
 pub(crate) fn attributes_of(settings: Settings, node: u64, found: FoundFile) -> Attributes
     ensures { result ≡ attributes_of settings node found }
 {
-    let (ino, details) = match settings {
-        Settings::Fixed { uid, gid } => (node, fixed_details(uid, gid, found.kind)),
-        Settings::Host => (found.details.ino, host_details(found.details)),
-    };
     Attributes {
-        ino,
-        kind: kind_of(found.kind),
+        kind: found.kind,
         size: found.size,
-        details,
+        details: details_of(settings.attributes, node, found),
     }
 }

@@ -9,7 +9,6 @@ ghost use Rattle.ops.specs.Replies.{entries_bytes, first, plus_entry};
 ghost use Rattle.wire.specs.Dirents.{plus_bytes};
 ghost use Rattle.wire.specs.declared.reply.ReplyBody.TheVariants.{Data as Told};
 
-use crate::attributes::kind_of;
 use crate::findings::FoundFile;
 use crate::replies::entry_of;
 use backing::Child;
@@ -119,9 +118,9 @@ fn put_entry(
     match (found, given) {
         (Some(found), Some(given)) => {
             let entry = entry_of(settings, found, given);
-            encode_plus_dirent(out, Some(entry), next, kind_of(found.kind), name)
+            encode_plus_dirent(out, Some(entry), next, found.kind, name)
         }
-        _ => encode_plus_dirent(out, None, next, kind_of(child.kind), name),
+        _ => encode_plus_dirent(out, None, next, child.kind, name),
     }
 }
 

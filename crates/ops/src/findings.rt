@@ -4,8 +4,8 @@ ghost use Rattle.std.specs.Prelude.{◌≡◌};
 ghost use Rattle.ops.specs.Ahead.{outcome_of, IsOfNoPage};
 
 use crate::looks::Looked;
-use backing::{Children, Details, Kind};
-use payload::Payload;
+use backing::Children;
+use payload::{Details, Kind, Payload};
 use table::Outcome;
 
 /// What was found at a path.
@@ -32,7 +32,7 @@ pub enum ScriptResult {
     Attributes(FoundFile),
     /// There is a file, and it is to be opened.
     Opening,
-    /// Bytes of a file.
+    /// Bytes of a file, or the text of a link.
     Bytes(Payload),
     /// That many bytes were written.
     Written { size: u32 },

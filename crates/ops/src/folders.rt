@@ -4,7 +4,6 @@ ghost use Rattle.std.specs.Prelude.{◌≡◌, ◌+◌, ◌^◌, ◌<◌, ◌++�
 ghost use Rattle.backing.specs.declared.call.Child.{Child};
 ghost use Rattle.ops.specs.Folders.{CarriesAtMost, IsPaged, names_bytes, names_reply};
 
-use crate::attributes::kind_of;
 use backing::Child;
 use errno::EINVAL;
 use handles::{Listing, PageFault};
@@ -20,7 +19,7 @@ fn put_names(out: &mut Vec<u8>, from: u64, children: &[Child]) -> Result<(), All
     let mut next = from;
     for child in children {
         next += 1;
-        encode_dirent(out, NO_INO, next, kind_of(child.kind), child.name.as_str())?;
+        encode_dirent(out, NO_INO, next, child.kind, child.name.as_str())?;
     }
     Ok(())
 }

@@ -5,12 +5,13 @@ ghost use Rattle.std.specs.List.{list_any};
 ghost use Rattle.paths.specs.Hidden.{is_reserved};
 ghost use Rattle.ops.specs.Intents.{intent_in, has_handle, intended, intent, names_of, needed_to_set, refused, reserved_errno, rename_intent, set_intent, sets_details, sets_other, sets_size};
 
+use crate::links::{is_left_out, link_intent};
 use crate::opening::{by_handle, create_intent, open_intent};
 use crate::wanted::Wanted;
-use errno::{EINVAL, ENOENT, EPERM};
+use errno::{EINVAL, ENOENT, ENOSYS, EPERM};
 use paths::reserved::is_reserved;
 use table_files::Need;
-use terms::Settings;
+use terms::{AttributeSource, Settings};
 use wire::{ForgetOne, Operation, ReplyBody, Request};
 
 /// What a request needs.
@@ -71,6 +72,7 @@ fn names_reserved(operation: &Operation<'_>) -> bool
     match operation {
         Operation::Lookup { name }
         | Operation::MakeDir { name, .. }
+        | Operation::MakeLink { name, .. }
         | Operation::Unlink { name }
         | Operation::RemoveDir { name }
         | Operation::Create { name, .. } => is_reserved(name),
@@ -80,6 +82,7 @@ fn names_reserved(operation: &Operation<'_>) -> bool
         Operation::Forget { .. }
         | Operation::GetAttr
         | Operation::SetAttr { .. }
+        | Operation::ReadLink
         | Operation::StatFs
         | Operation::Init { .. }
         | Operation::Open { .. }
@@ -132,23 +135,23 @@ fn sets_details(valid: u32) -> bool
 
 /// Whether SETATTR asks for a field that is not set. With the host's attributes all fields are set except the time of
 /// change (`FATTR_CTIME`). That one is ignored: kernels ask for it along with others, and the system sets it itself.
-fn sets_other(settings: Settings, valid: u32) -> bool
-    ensures { result ≡ sets_other settings valid }
+fn sets_other(source: AttributeSource, valid: u32) -> bool
+    ensures { result ≡ sets_other source valid }
 {
-    match settings {
-        Settings::Fixed { .. } => sets_details(valid),
-        Settings::Host => valid >= UNKNOWN,
+    match source {
+        AttributeSource::Fixed { .. } => sets_details(valid),
+        AttributeSource::Host => valid >= UNKNOWN,
     }
 }
 
 /// The access that a handle must have for a SETATTR. Without a size any will do, as for the system's own calls on a
 /// descriptor.
-fn needed_to_set(settings: Settings, valid: u32) -> Need
-    ensures { result ≡ needed_to_set settings valid }
+fn needed_to_set(source: AttributeSource, valid: u32) -> Need
+    ensures { result ≡ needed_to_set source valid }
 {
-    match settings {
-        Settings::Host if !sets_size(valid) => Need::Any,
-        Settings::Fixed { .. } | Settings::Host => Need::Writing,
+    match source {
+        AttributeSource::Host if !sets_size(valid) => Need::Any,
+        AttributeSource::Fixed { .. } | AttributeSource::Host => Need::Writing,
     }
 }
 
@@ -161,14 +164,14 @@ pub(crate) fn refused<'a>(errno: i32) -> Intent<'a>
 
 /// A SETATTR. Setting a field that is not supported is EPERM (own). If there is a handle, it must be open for what is
 /// set.
-fn set_intent<'a>(settings: Settings, node: u64, valid: u32, fh: u64) -> Intent<'a>
-    ensures { intent_in result ≡ set_intent settings node valid fh }
+fn set_intent<'a>(source: AttributeSource, node: u64, valid: u32, fh: u64) -> Intent<'a>
+    ensures { intent_in result ≡ set_intent source node valid fh }
 {
-    if sets_other(settings, valid) {
+    if sets_other(source, valid) {
         return refused(EPERM);
     }
     if has_handle(valid) {
-        return by_handle(node, fh, needed_to_set(settings, valid));
+        return by_handle(node, fh, needed_to_set(source, valid));
     }
     Intent::Want(Wanted::Node {
         number: node,
@@ -217,11 +220,14 @@ fn intended<'a>(settings: Settings, node: u64, operation: Operation<'a>) -> Inte
         }
         Operation::Forget { nlookup } => Intent::Forget(ForgetOne { node, nlookup }),
         Operation::BatchForget { pairs } => Intent::ForgetAll { pairs },
-        Operation::GetAttr | Operation::OpenDir => Intent::Want(Wanted::Node {
-            number: node,
-            handle: None,
-        }),
-        Operation::SetAttr { valid, fh, .. } => set_intent(settings, node, valid, fh),
+        Operation::MakeLink { name, text } => link_intent(parent, name, text),
+        Operation::GetAttr | Operation::ReadLink | Operation::OpenDir => Intent::Want(
+            Wanted::Node {
+                number: node,
+                handle: None,
+            },
+        ),
+        Operation::SetAttr { valid, fh, .. } => set_intent(settings.attributes, node, valid, fh),
         Operation::Open { flags } => open_intent(node, flags),
         Operation::Create { name, flags, .. } => create_intent(parent, name, flags),
         Operation::Read { fh, .. } => by_handle(node, fh, Need::Reading),
@@ -274,12 +280,17 @@ fn intended<'a>(settings: Settings, node: u64, operation: Operation<'a>) -> Inte
 
 /// What the request needs. It does not allocate: names stay in the request's frame.
 ///
-/// These are refused at once: a reserved name, before anything else, with ENOENT for LOOKUP and EPERM for any other
-/// (own); a SETATTR of a field that these settings do not set, with EPERM (own); an OPEN or CREATE whose flags have no
-/// valid access mode, with EINVAL; and a RENAME2 whose flags are not 0, 1 or 2, with EINVAL (own).
+/// These are refused at once: an operation that these settings do not serve, with ENOSYS; a reserved name, before
+/// anything else, with ENOENT for LOOKUP and EPERM for any other (own); a SETATTR of a field that these settings do not
+/// set, with EPERM (own); an OPEN or CREATE whose flags have no valid access mode, with EINVAL; a RENAME2 whose flags
+/// are not 0, 1 or 2, with EINVAL (own); and a SYMLINK whose text is empty, with ENOENT, or has 4,096 bytes or more,
+/// with ENAMETOOLONG.
 pub fn intent_of<'a>(settings: Settings, request: &Request<'a>) -> Intent<'a>
     ensures { intent_in result ≡ intent settings request.now }
 {
+    if is_left_out(settings, &request.operation) {
+        return refused(ENOSYS);
+    }
     if names_reserved(&request.operation) {
         return refused(reserved_errno(&request.operation));
     }

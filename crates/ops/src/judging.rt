@@ -2,10 +2,22 @@
 
 ghost use Rattle.std.specs.Prelude.{◌≡◌};
 ghost use Rattle.backing.specs.Calls.{asked};
-ghost use Rattle.ops.specs.Judged.{errno_in, fits, is_written, judged};
+ghost use Rattle.ops.specs.Judged.{errno_in, fits, is_sized, is_written, judged};
 
-use backing::{Answer, Call, Kind};
+use crate::links::PATH_MAX;
+use backing::{Answer, Call};
 use errno::EIO;
+use payload::Kind;
+
+/// Whether what is of that kind may have that size: a folder has none.
+fn is_sized(kind: Kind, size: u64) -> bool
+    ensures { result ≡ is_sized kind size }
+{
+    match kind {
+        Kind::Folder => size == 0,
+        Kind::File | Kind::Link | Kind::Special(_) => true,
+    }
+}
 
 /// Whether that many bytes of the piece may have been written: no more than there are, and no more than a reply can
 /// say.
@@ -20,12 +32,14 @@ fn fits(call: Call<'_>, answer: &Answer) -> bool
     ensures { result ≡ fits (asked call.entry) answer.now }
 {
     match (call, answer) {
-        (Call::Stat(_), Answer::Stat { kind, size, .. }) => *kind == Kind::File || *size == 0,
+        (Call::Stat(_), Answer::Stat { kind, size, .. }) => is_sized(*kind, *size),
         (Call::Read { size, .. }, Answer::Bytes(bytes)) => bytes.len() <= size as usize,
+        (Call::ReadLink(_), Answer::Bytes(text)) => text.len() < PATH_MAX,
         (Call::Write { data, .. }, Answer::Wrote(count)) => is_written(data, *count),
         (
             Call::Make { .. }
             | Call::MakeDir { .. }
+            | Call::MakeLink { .. }
             | Call::Remove(_)
             | Call::RemoveDir(_)
             | Call::Rename { .. }

@@ -1,18 +1,19 @@
 //! Looking at several paths, one after another.
 
 ghost use Rattle.std.specs.Prelude.{◌≡◌, ◌<◌, [], length, map, is_some, IfOk};
-ghost use Rattle.ops.specs.Ahead.{end_of};
+ghost use Rattle.ops.specs.Ahead.{end_of, plan_ending};
 ghost use Rattle.ops.specs.Looking.{looked_on, plan_looking};
-ghost use Rattle.ops.specs.Scripts.{found_in, next_of, AsksNext, End, Over};
+ghost use Rattle.ops.specs.Scripts.{at_names, found_in, next_of, AsksNext, End, Over};
 
 use crate::findings::{FoundFile, ScriptResult};
 use crate::judging::judge;
+use crate::script::{LastCall, UNFIT};
 use backing::{Answer, Call};
 use errno::EIO;
 use paths::Path;
 use std::alloc::{AllocError, Global};
 use std::marker::Model;
-use table::FoundNames;
+use table::{FoundNames, Ticket};
 
 /// For each of several paths what was found there, if anything. Contracts see a list.
 #[derive(Drop)]
@@ -133,5 +134,15 @@ impl<'a> Looks<'a> {
             }
             [_, ..] => ScriptResult::Error { errno: EIO },
         }
+    }
+}
+
+/// The end of the script of a READDIRPLUS, whose ticket has the path of its folder and then that of each name.
+pub(crate) fn end_with_looks(alloc: Global, ticket: &Ticket) -> Result<LastCall<'_>, AllocError>
+    ensures { IfOk result (λ ending. plan_ending ending ≡ at_names ticket.now.paths) }
+{
+    match ticket.paths() {
+        [_, paths @ ..] => Ok(LastCall::Each(Looks::new(alloc, paths)?)),
+        [] => Ok(UNFIT),
     }
 }

@@ -12,9 +12,10 @@ use crate::intents::{EXCHANGE, NO_REPLACE};
 use crate::judging::{errno_in, judge};
 use crate::script::{DONE, LastCall, Script, UNFIT};
 use crate::telling::ReplyKind;
-use backing::{Answer, Call, Kind};
+use backing::{Answer, Call};
 use errno::ENOTDIR;
 use paths::Path;
+use payload::Kind;
 use table::Ticket;
 
 /// The script of a RENAME from the first path of its ticket to the second.
@@ -102,7 +103,7 @@ pub(crate) fn replace_on<'a>(
 {
     let errno = match judge(Call::Stat(from), answer) {
         Answer::Stat {
-            kind: Kind::File,
+            kind: Kind::File | Kind::Link | Kind::Special(_),
             ..
         } => {
             return LastCall::Hide(Hiding {

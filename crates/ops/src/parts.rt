@@ -2,10 +2,11 @@
 
 ghost use Rattle.std.specs.Prelude.{◌≡◌, ◌<◌, ◌==◌};
 ghost use Rattle.std.specs.Int.{bit_at};
-ghost use Rattle.ops.specs.Parts.{counted, made_with, new_time, parts_of, permissions_of, time_at};
+ghost use Rattle.ops.specs.Parts.{counted, made_with, new_time, parts_of, permissions_of};
 
-use backing::{NewTime, Time};
-use terms::Settings;
+use backing::NewTime;
+use payload::Time;
+use terms::AttributeSource;
 use wire::NewAttributes;
 
 /// The parts of a node's attributes that are to be set.
@@ -62,7 +63,7 @@ fn counted<T: Copy>(valid: u32, bit: u32, value: T) -> Option<T>
 }
 
 /// The current time if its bit is set, or else the given time if the bit for that is set.
-fn new_time(valid: u32, bit: u32, now_bit: u32, time: wire::Time) -> Option<NewTime>
+fn new_time(valid: u32, bit: u32, now_bit: u32, time: Time) -> Option<NewTime>
     requires bit { bit < 32 }
     requires now_bit { now_bit < 32 }
     ensures { result ≡ new_time valid bit now_bit time }
@@ -70,17 +71,7 @@ fn new_time(valid: u32, bit: u32, now_bit: u32, time: wire::Time) -> Option<NewT
     if is_set(valid, now_bit) {
         return Some(NewTime::Now);
     }
-    counted(valid, bit, NewTime::At(time_at(time)))
-}
-
-/// A time of a request, as the directory takes it.
-fn time_at(time: wire::Time) -> Time
-    ensures { result ≡ time_at time }
-{
-    Time {
-        seconds: time.seconds,
-        nanos: time.nanos,
-    }
+    counted(valid, bit, NewTime::At(time))
 }
 
 /// The permission bits of a mode.
@@ -106,12 +97,12 @@ pub(crate) fn parts_of(valid: u32, size: u64, new: NewAttributes) -> NewParts
 
 /// The permission bits of a new file or folder: with the host's attributes those of the requested mode without the
 /// umask, and otherwise none, so that the directory decides.
-pub(crate) fn made_with(settings: Settings, mode: u32, umask: u32) -> Option<u32>
-    ensures { result ≡ made_with settings mode umask }
+pub(crate) fn made_with(source: AttributeSource, mode: u32, umask: u32) -> Option<u32>
+    ensures { result ≡ made_with source mode umask }
 {
-    match settings {
-        Settings::Fixed { .. } => None,
+    match source {
+        AttributeSource::Fixed { .. } => None,
         // The umask is the client's: the mask of the server's process is not applied.
-        Settings::Host => Some(permissions_of(mode) & !umask),
+        AttributeSource::Host => Some(permissions_of(mode) & !umask),
     }
 }

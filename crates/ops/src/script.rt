@@ -3,17 +3,17 @@
 
 ghost use Rattle.std.specs.Prelude.{◌≡◌, ◌<◌, [], IfOk, OnErr};
 ghost use Rattle.ops.specs.Ahead.{calls_left, end_of, plan_ahead, plan_ending, told_of, unless, LooksAtEach};
-ghost use Rattle.ops.specs.Scripts.{after, at_names, if_done, look, next_of, plan_of, release, AsksNext, End, Over, Plan};
+ghost use Rattle.ops.specs.Scripts.{after, if_done, look, next_of, plan_of, release, AsksNext, End, Over, Plan};
 ghost use Rattle.terms.specs.declared.settings.Settings.{Settings as Whose};
 
 use crate::findings::ScriptResult;
 use crate::hiding::{Hiding, start_unlink, unhidden};
 use crate::judging::{errno_in, judge};
-use crate::looks::Looks;
+use crate::looks::{Looks, end_with_looks};
 use crate::moving::{moved, replace_on, start_rename, start_rename_by};
 use crate::parts::{made_with, parts_of};
 use crate::setting::Setting;
-use crate::telling::{ReplyKind, listed, looked, read, removed, written};
+use crate::telling::{ReplyKind, listed, looked, read, read_link, removed, written};
 use backing::{Answer, Call};
 use errno::EIO;
 use paths::Path;
@@ -39,6 +39,10 @@ pub enum LastCall<'a> {
         path: &'a Path,
         offset: u64,
         size: u32,
+    },
+    /// Reading the text of the link at the path.
+    ReadLink {
+        path: &'a Path,
     },
     /// Writing data to the file at the path, and reporting how many bytes were written.
     Write {
@@ -121,16 +125,6 @@ fn start_release(ticket: &Ticket) -> Script<'_>
     }
 }
 
-/// The end of the script of a READDIRPLUS, whose ticket has the path of its folder and then that of each name.
-fn end_with_looks(alloc: Global, ticket: &Ticket) -> Result<LastCall<'_>, AllocError>
-    ensures { IfOk result (λ ending. plan_ending ending ≡ at_names ticket.now.paths) }
-{
-    match ticket.paths() {
-        [_, paths @ ..] => Ok(LastCall::Each(Looks::new(alloc, paths)?)),
-        [] => Ok(UNFIT),
-    }
-}
-
 /// The script of a request whose ticket has no path.
 fn without_path<'a>(operation: Operation<'_>, ticket: &'a Ticket) -> Script<'a>
     requires { ticket.now.paths ≡ [] }
@@ -175,12 +169,17 @@ impl<'a> Script<'a> {
                 (None, LastCall::Set(Setting { path, parts }))
             }
             Operation::MakeDir { mode, umask, .. } => {
-                let permissions = made_with(settings, mode, umask);
+                let permissions = made_with(settings.attributes, mode, umask);
                 let make = Call::MakeDir { path, permissions };
                 (Some(make), look(path, ReplyKind::Entry))
             }
+            Operation::MakeLink { text, .. } => {
+                let make = Call::MakeLink { path, text };
+                (Some(make), look(path, ReplyKind::Entry))
+            }
+            Operation::ReadLink => (None, LastCall::ReadLink { path }),
             Operation::Create { mode, umask, .. } => {
-                let permissions = made_with(settings, mode, umask);
+                let permissions = made_with(settings.attributes, mode, umask);
                 let make = Call::Make { path, permissions };
                 (Some(make), look(path, ReplyKind::NewFile))
             }
@@ -222,6 +221,7 @@ impl<'a> Script<'a> {
                 offset: *offset,
                 size: *size,
             }),
+            (None, LastCall::ReadLink { path }) => Some(Call::ReadLink(path)),
             (None, LastCall::Write { path, offset, data }) => Some(Call::Write {
                 path,
                 offset: *offset,
@@ -257,6 +257,7 @@ impl<'a> Script<'a> {
             LastCall::Look { path, tells } => looked(*tells, &judge(Call::Stat(path), answer)),
             LastCall::List { path } => listed(judge(Call::List(path), answer)),
             LastCall::Read { path, offset, size } => read(path, *offset, *size, answer),
+            LastCall::ReadLink { path } => read_link(path, answer),
             LastCall::Write { path, offset, data } => written(path, *offset, data, answer),
             LastCall::Each(looks) => return looks.feed(answer),
             LastCall::Replace { from, to, left } => {
@@ -294,6 +295,7 @@ impl<'a> Script<'a> {
             LastCall::Look { .. }
             | LastCall::List { .. }
             | LastCall::Read { .. }
+            | LastCall::ReadLink { .. }
             | LastCall::Write { .. }
             | LastCall::Replace { .. }
             | LastCall::Set(_)

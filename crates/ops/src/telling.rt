@@ -1,16 +1,17 @@
 //! The results of scripts, from the answer to their last call.
 
 ghost use Rattle.std.specs.Prelude.{◌≡◌};
-ghost use Rattle.backing.specs.Calls.{AskRead, AskRemove, AskWrite};
+ghost use Rattle.backing.specs.Calls.{AskRead, AskReadLink, AskRemove, AskWrite};
 ghost use Rattle.ops.specs.Ahead.{end_of, told_of};
 ghost use Rattle.ops.specs.Judged.{judged};
 ghost use Rattle.ops.specs.Scripts.{if_found, if_listed, if_read, if_removed, if_written, open_end, Over};
 
 use crate::findings::{FoundFile, ScriptResult};
 use crate::judging::{errno_in, judge};
-use backing::{Answer, Call, Kind};
-use errno::{EEXIST, EISDIR};
+use backing::{Answer, Call};
+use errno::{EEXIST, EINVAL, EISDIR};
 use paths::Path;
+use payload::Kind;
 
 /// What is reported about what is at a path.
 #[derive(Clone, Copy, Debug, PartialEq, Eq)]
@@ -22,7 +23,7 @@ pub enum ReplyKind {
     /// A file that was created is given and opened.
     NewFile,
     Attributes,
-    /// A file is opened; for a folder it is EISDIR.
+    /// A file is opened; for a folder it is EISDIR, and for anything else EINVAL (own).
     Opening,
 }
 
@@ -33,6 +34,8 @@ fn opening(kind: Kind) -> ScriptResult
     match kind {
         Kind::Folder => ScriptResult::Error { errno: EISDIR },
         Kind::File => ScriptResult::Opening,
+        // Nobody opens a pipe, a socket or a device through the server: its client opens its own.
+        Kind::Link | Kind::Special(_) => ScriptResult::Error { errno: EINVAL },
     }
 }
 
@@ -90,6 +93,18 @@ pub(crate) fn read(path: &Path, offset: u64, size: u32, answer: Answer) -> Scrip
 {
     match judge(Call::Read { path, offset, size }, answer) {
         Answer::Bytes(bytes) => ScriptResult::Bytes(bytes),
+        other => ScriptResult::Error {
+            errno: errno_in(&other),
+        },
+    }
+}
+
+/// The result of a ReadLink.
+pub(crate) fn read_link(path: &Path, answer: Answer) -> ScriptResult
+    ensures { Over (end_of result) ≡ if_read (judged (AskReadLink path.now) answer) }
+{
+    match judge(Call::ReadLink(path), answer) {
+        Answer::Bytes(text) => ScriptResult::Bytes(text),
         other => ScriptResult::Error {
             errno: errno_in(&other),
         },

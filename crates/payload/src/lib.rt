@@ -1,8 +1,12 @@
-//! Bytes stored behind room for a header, so that a reply can be built in the buffer that was read into.
+//! What requests and answers carry: attributes of files, and bytes behind room for a header, so that a reply can be built in the
+//! buffer that was read into.
 #![tactic(auto)]
 
 ghost use Rattle.std.specs.Prelude.{◌≡◌, ◌≢◌, ◌≤◌, ◌+◌, ◌++◌, IfErr, IfOk, drop, length};
 
+mod attributes;
+
+pub use attributes::{Details, Kind, Special, Time};
 use std::marker::Model;
 
 /// How much room the header of a reply takes (`fuse_out_header` of Linux's `fuse.h`).

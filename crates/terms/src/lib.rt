@@ -1,4 +1,4 @@
-//! The settings of a session: how far its table may grow, and whose attributes it reports. The command line and the
+//! The settings of a session: how far its table may grow, and what it shows of its folder. The command line and the
 //! layers below it share these types, so that neither waits for the other in the build.
 #![tactic(auto)]
 
@@ -7,5 +7,5 @@ mod settings;
 mod terms;
 
 pub use limits::{Counts, Limits};
-pub use settings::Settings;
+pub use settings::{AttributeSource, Kinds, Settings};
 pub use terms::{Bounds, Terms};

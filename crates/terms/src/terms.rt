@@ -40,7 +40,7 @@ impl Default for Bounds {
 /// The settings of a session, apart from its link and its folder.
 #[derive(Clone, Copy, Debug, PartialEq, Eq)]
 pub struct Terms {
-    /// Whose attributes the replies report.
+    /// What is shown of the folder.
     pub settings: Settings,
     /// How far the table may grow.
     pub bounds: Bounds,

@@ -1,8 +1,10 @@
 //! Calls as words, and answers as text.
 
-use crate::details::{call_that_sets, mode_told, octal, times_told};
-use backing::{Answer, Call, Calls, Child, Kind};
+use crate::details::{call_that_sets, mode_told, octal, owner_told, times_told};
+use crate::texts;
+use backing::{Answer, Call, Calls, Child};
 use paths::{Name, Path};
+use payload::{Kind, Special};
 use std::alloc::{AllocError, Global};
 use std::test::Fail;
 
@@ -44,6 +46,7 @@ fn call_of<'a>(
         },
         "remove" => Call::Remove(path),
         "rmdir" => Call::RemoveDir(path),
+        "readlink" => Call::ReadLink(path),
         "sync" => Call::Sync(path),
         "rename" => Call::Rename {
             from: path,
@@ -127,9 +130,32 @@ fn check<C: Calls>(
     }
 }
 
+/// The answer to one call that makes a link with that text.
+fn link<C: Calls>(
+    alloc: Global,
+    calls: &mut C,
+    path: &Path,
+    text: Vec<u8>,
+) -> Result<String, AllocError> {
+    let text = text.as_slice();
+    shown(alloc, calls.call(Call::MakeLink { path, text }))
+}
+
+/// How long the text of the link is, and how many of its bytes are those of a text that was filled.
+fn check_link<C: Calls>(alloc: Global, calls: &mut C, path: &Path) -> Result<String, AllocError> {
+    match calls.call(Call::ReadLink(path)) {
+        Answer::Bytes(text) => {
+            let right = texts::count_filled(text.as_slice());
+            format!(in alloc; "{right} of {}", text.as_slice().len())
+        }
+        other => shown(alloc, other),
+    }
+}
+
 /// The answer to a call that is written as its name, its paths and its numbers or bytes, separated by spaces. For many
-/// bytes, `fill` writes them in one call, and `check` reads them in one. `mode` and `times` show parts of what a STAT
-/// reports.
+/// bytes, `fill` writes them in one call, and `check` reads them in one. `link` makes a link with that text, `link-hex` with
+/// the bytes that it spells, and `link-fill` with so many, which `link-check` reads. `mode`, `owner` and `times` show parts of
+/// what a STAT reports.
 pub fn ask<C: Calls>(alloc: Global, calls: &mut C, words: &str) -> Result<String, AllocError> {
     let mut parts = words.split(' ');
     let name = parts.next().unwrap_or("");
@@ -139,7 +165,12 @@ pub fn ask<C: Calls>(alloc: Global, calls: &mut C, words: &str) -> Result<String
     match name {
         "fill" => return fill(alloc, calls, &path, number(first), number(second)),
         "check" => return check(alloc, calls, &path, number(first), number(second)),
+        "link" | "link-hex" | "link-fill" => {
+            return link(alloc, calls, &path, texts::text_of(alloc, name, first)?);
+        }
+        "link-check" => return check_link(alloc, calls, &path),
         "mode" => return mode_told(alloc, calls.call(Call::Stat(&path))),
+        "owner" => return owner_told(alloc, calls.call(Call::Stat(&path))),
         "times" => return times_told(alloc, calls.call(Call::Stat(&path))),
         _ => {}
     }
@@ -154,7 +185,7 @@ pub fn ask<C: Calls>(alloc: Global, calls: &mut C, words: &str) -> Result<String
 fn shown(alloc: Global, answer: Answer) -> Result<String, AllocError> {
     match answer {
         Answer::Done => String::from_str(alloc, "done"),
-        Answer::Stat { kind, size, .. } => format!(in alloc; "{} {size}", word(kind)),
+        Answer::Stat { kind, size, .. } => stat_told(alloc, kind, size),
         Answer::Names(children) => listed(alloc, children.into_vec()),
         Answer::Bytes(bytes) => hexadecimal(alloc, bytes.as_slice()),
         Answer::Wrote(count) => format!(in alloc; "wrote {count}"),
@@ -162,20 +193,43 @@ fn shown(alloc: Global, answer: Answer) -> Result<String, AllocError> {
     }
 }
 
-fn word(kind: Kind) -> &'static str {
-    match kind {
+/// A kind in a word, with the number that a device has.
+fn word_of(alloc: Global, kind: Kind) -> Result<String, AllocError> {
+    let word = match kind {
         Kind::Folder => "folder",
         Kind::File => "file",
+        Kind::Link => "link",
+        Kind::Special(Special::Pipe) => "pipe",
+        Kind::Special(Special::Socket) => "socket",
+        Kind::Special(Special::Character(number)) => {
+            return format!(in alloc; "character {number}");
+        }
+        Kind::Special(Special::Block(number)) => return format!(in alloc; "block {number}"),
+    };
+    String::from_str(alloc, word)
+}
+
+fn stat_told(alloc: Global, kind: Kind, size: u64) -> Result<String, AllocError> {
+    let word = word_of(alloc, kind)?;
+    format!(in alloc; "{} {size}", word.as_str())
+}
+
+/// What stands behind a name in a listing, as `ls -F` has it; behind that of a device a `#`.
+fn mark_of(kind: Kind) -> &'static str {
+    match kind {
+        Kind::Folder => "/",
+        Kind::File => "",
+        Kind::Link => "@",
+        Kind::Special(Special::Pipe) => "|",
+        Kind::Special(Special::Socket) => "=",
+        Kind::Special(Special::Character(_) | Special::Block(_)) => "#",
     }
 }
 
-/// A name, with a `/` after that of a folder.
+/// A name, with a mark of its kind behind it.
 fn marked(alloc: Global, child: &Child) -> Result<String, AllocError> {
     let mut text = String::from_str(alloc, child.name.as_str())?;
-    match child.kind {
-        Kind::Folder => text.push_str("/")?,
-        Kind::File => {}
-    }
+    text.push_str(mark_of(child.kind))?;
     Ok(text)
 }
 

@@ -1,7 +1,8 @@
 //! Words for the calls that set details, and details as text.
 
-use backing::{Answer, Call, NewTime, Time};
+use backing::{Answer, Call, NewTime};
 use paths::Path;
+use payload::Time;
 use std::alloc::{AllocError, Global};
 
 /// Permission bits in octal, if there are any.
@@ -63,6 +64,15 @@ pub fn mode_told(alloc: Global, answer: Answer) -> Result<String, AllocError> {
         Answer::Stat { details, .. } => format!(in alloc; "{:o}", details.permissions),
         Answer::Fault(errno) => format!(in alloc; "fault {errno}"),
         _ => String::from_str(alloc, "no mode"),
+    }
+}
+
+/// The owner and the group in a STAT.
+pub fn owner_told(alloc: Global, answer: Answer) -> Result<String, AllocError> {
+    match answer {
+        Answer::Stat { details, .. } => format!(in alloc; "{} {}", details.uid, details.gid),
+        Answer::Fault(errno) => format!(in alloc; "fault {errno}"),
+        _ => String::from_str(alloc, "no owner"),
     }
 }
 

@@ -2,6 +2,8 @@
 #![tactic(auto)]
 
 #[cfg(test)]
+mod all_kinds;
+#[cfg(test)]
 mod asking;
 #[cfg(test)]
 mod attributes;
@@ -17,6 +19,8 @@ mod faults;
 mod gone;
 #[cfg(test)]
 mod kept;
+#[cfg(test)]
+mod linked;
 #[cfg(test)]
 mod links;
 #[cfg(test)]
@@ -42,12 +46,18 @@ mod sample_trees;
 #[cfg(test)]
 mod seen;
 #[cfg(test)]
+mod specials;
+#[cfg(test)]
 mod telling;
+#[cfg(test)]
+mod texts;
 #[cfg(test)]
 mod trusted;
 #[cfg(test)]
 mod watch;
 #[cfg(test)]
 mod watched;
+#[cfg(test)]
+mod worker_stories;
 #[cfg(test)]
 mod workers;

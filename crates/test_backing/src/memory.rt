@@ -1,7 +1,7 @@
 //! A folder of an honest disk in memory beside a memory tree, also where calls of the disk fail.
 
 use crate::asking::{ask, expect_count};
-use crate::random::{Dice, ask_many, call};
+use crate::random::{Dice, ask_many, call_of};
 use backing::{MemTree, PlannedFault};
 use disk::MemoryDisk;
 use disk_folder::Folder;
@@ -9,8 +9,10 @@ use errno::EIO;
 use std::alloc::{AllocError, Global};
 use std::hash::RandomState;
 use std::test::Fail;
+use terms::Kinds;
 
-type InMemory = Folder<MemoryDisk>;
+/// A folder of it.
+pub type InMemory = Folder<MemoryDisk>;
 
 /// So many calls of the disk fail at most.
 const FAULTS: u64 = 500;
@@ -22,7 +24,7 @@ fn a_folder_in_memory_answers_alike(rt: HostRuntime) -> Result<(), Fail> {
         disk.set_most(most);
         disk.set_keeps_files(keeps_files);
         let mut folder = folder_of(&rt, disk, capacity)?;
-        ask_many(rt.alloc(), &mut folder, 1500)?;
+        ask_many(rt.alloc(), &mut folder, Kinds::All, 1500)?;
     }
     Ok(())
 }
@@ -45,7 +47,7 @@ fn is_same_at(
     folder: &mut InMemory,
     path: &str,
 ) -> Result<bool, AllocError> {
-    for name in ["stat", "read"] {
+    for name in ["stat", "read", "readlink"] {
         let words = format!(in alloc; "{name} {path} 0 99")?;
         let wanted = ask(alloc, tree, words.as_str())?;
         let told = told_surely(alloc, folder, words.as_str())?;
@@ -128,7 +130,7 @@ fn ask_failing(
 }
 
 /// Of that disk.
-fn folder_of(rt: &HostRuntime, disk: MemoryDisk, capacity: usize) -> Result<InMemory, Fail> {
+pub fn folder_of(rt: &HostRuntime, disk: MemoryDisk, capacity: usize) -> Result<InMemory, Fail> {
     let seed = RandomState::new(rt)?;
     let folder = Folder::new(disk, capacity, seed)?;
     Ok(folder)
@@ -153,7 +155,7 @@ fn ask_many_failing(
     let mut tree = MemTree::new(alloc);
     let mut dice = Dice::new(20_261_128);
     for _ in 0..count {
-        let words = call(alloc, &mut dice)?;
+        let words = call_of(alloc, &mut dice, Kinds::All)?;
         if !ask_failing(alloc, &mut tree, folder, words.as_str())? && settled {
             settle(alloc, &mut tree, folder, words.as_str())?;
         }

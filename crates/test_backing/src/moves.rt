@@ -45,7 +45,7 @@ const NEW: [&[(&str, &str)]; 2] = [
 ];
 
 /// Each group starts from the sample, on a tree that can exchange.
-const EXCHANGES: [&[(&str, &str)]; 3] = [
+const EXCHANGES: [&[(&str, &str)]; 4] = [
     &[
         ("exchange a e", "done"),
         ("read a 0 9", "bytes "),
@@ -101,6 +101,22 @@ const EXCHANGES: [&[(&str, &str)]; 3] = [
         ("exchange d dd", "done"),
         ("list dd", "names s"),
         ("list d/r", "names p"),
+    ],
+    // A link, which is not followed, with a folder and with the file that it leads to.
+    &[
+        ("link l a", "done"),
+        ("make d/x", "done"),
+        ("exchange l d", "done"),
+        ("list l", "names x"),
+        ("readlink d", "bytes 61"),
+        ("exchange d d/x", "fault 22"),
+        ("exchange d a", "done"),
+        ("read d 0 9", "bytes 616263"),
+        ("readlink a", "bytes 61"),
+        ("exchange a a", "done"),
+        ("exchange a l/x", "done"),
+        ("readlink l/x", "bytes 61"),
+        ("list .", "names a d e l/"),
     ],
 ];
 

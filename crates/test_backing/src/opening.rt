@@ -13,6 +13,7 @@ use std::alloc::{AllocError, Global};
 use std::hash::RandomState;
 use std::rc::Rc;
 use std::test::Fail;
+use terms::Kinds;
 
 /// So many files and folders most tests keep open.
 pub const CAPACITY: usize = 64;
@@ -28,6 +29,7 @@ pub type Served = Folder<Unknown<System>>;
 pub struct Opened {
     pub folder: Served,
     pub watch: Rc<Watch>,
+    pub kinds: Kinds,
 }
 
 impl Opened {
@@ -67,6 +69,7 @@ impl Drop for Opened {
         let Opened {
             folder: _,
             watch: _,
+            kinds: _,
         } = self;
     }
 }
@@ -80,9 +83,14 @@ fn error_of(error: StartError) -> DiskError {
     }
 }
 
-/// The folder of the system at that path.
-fn system_at(alloc: Global, root: &str, watch: Rc<Watch>) -> Result<System, DiskError> {
-    let Ok(calls) = LibC::new(alloc) else {
+/// The folder of the system at that path, of which these kinds are shown.
+fn system_at(
+    alloc: Global,
+    root: &str,
+    kinds: Kinds,
+    watch: Rc<Watch>,
+) -> Result<System, DiskError> {
+    let Ok(calls) = LibC::new(alloc, kinds) else {
         return Err(DiskError::Failed(ENOMEM));
     };
     match Linux::open(Watched::new(calls, watch), NoFiles::new(), alloc, root) {
@@ -96,6 +104,7 @@ fn folder_at(
     rt: &HostRuntime,
     root: &str,
     capacity: usize,
+    kinds: Kinds,
     watch: &Rc<Watch>,
 ) -> Result<Served, DiskError> {
     let Ok(seed) = RandomState::new(rt) else {
@@ -104,7 +113,7 @@ fn folder_at(
     let Ok(watch) = watch.clone() else {
         return Err(DiskError::Failed(ENOMEM));
     };
-    let system = system_at(rt.alloc(), root, watch)?;
+    let system = system_at(rt.alloc(), root, kinds, watch)?;
     Folder::new(Unknown::new(system), capacity, seed)
 }
 
@@ -114,14 +123,28 @@ fn watch_at(rt: &HostRuntime, root: &str) -> Result<Rc<Watch>, AllocError> {
     Ok(shared)
 }
 
-/// The folder at that path, which keeps so many files and folders open at most. From then on the process's working directory is the
-/// folder of its descriptors.
-pub fn open_with(rt: &HostRuntime, root: &str, capacity: usize) -> Result<Opened, DiskError> {
+/// The folder at that path, which keeps so many files and folders open at most and shows these kinds. From then on the process's
+/// working directory is the folder of its descriptors.
+pub fn open_of(
+    rt: &HostRuntime,
+    root: &str,
+    capacity: usize,
+    kinds: Kinds,
+) -> Result<Opened, DiskError> {
     let Ok(watch) = watch_at(rt, root) else {
         return Err(DiskError::Failed(ENOMEM));
     };
-    let folder = folder_at(rt, root, capacity, &watch)?;
-    Ok(Opened { folder, watch })
+    let folder = folder_at(rt, root, capacity, kinds, &watch)?;
+    Ok(Opened {
+        folder,
+        watch,
+        kinds,
+    })
+}
+
+/// The same, of which files and folders alone are shown.
+pub fn open_with(rt: &HostRuntime, root: &str, capacity: usize) -> Result<Opened, DiskError> {
+    open_of(rt, root, capacity, Kinds::Plain)
 }
 
 /// The same, with room for what most tests use.

@@ -1,7 +1,7 @@
 //! Random calls on a memory tree and on a folder of a disk, side by side.
 
 use crate::asking::{ask, expect, expect_count};
-use crate::opening::{CAPACITY, Opened, open_with};
+use crate::opening::{CAPACITY, Opened, open_of};
 use crate::sample_trees::new_folder;
 use backing::MemTree;
 use disk::Disk;
@@ -9,6 +9,7 @@ use disk_folder::Folder;
 use std::alloc::{AllocError, Global};
 use std::fs;
 use std::test::Fail;
+use terms::Kinds;
 
 /// Random numbers, the same ones in each run.
 #[derive(Drop)]
@@ -80,8 +81,8 @@ const NAMES: [&str; 25] = [
     "utimes",
 ];
 
-/// The words of a random call.
-pub fn call(alloc: Global, dice: &mut Dice) -> Result<String, AllocError> {
+/// The words of a random call, none on links.
+fn call(alloc: Global, dice: &mut Dice) -> Result<String, AllocError> {
     let one = path(alloc, dice)?;
     let offset = dice.below(12);
     let size = dice.below(9);
@@ -98,6 +99,37 @@ pub fn call(alloc: Global, dice: &mut Dice) -> Result<String, AllocError> {
         _ => format!(in alloc; "{offset} ")?,
     };
     format!(in alloc; "{name} {one} {rest}")
+}
+
+/// The words of a random call that makes a link or reads one.
+fn call_on_link(alloc: Global, dice: &mut Dice) -> Result<String, AllocError> {
+    let one = path(alloc, dice)?;
+    if dice.below(2) == 0 {
+        return format!(in alloc; "readlink {one}");
+    }
+    let to = path(alloc, dice)?;
+    format!(in alloc; "link {one} {to}")
+}
+
+/// Whether the call sets what Linux does not set of a link.
+fn sets_no_link(words: &str) -> bool {
+    words.starts_with("chmod ") || words.starts_with("utimes ")
+}
+
+/// The words of a random call on a directory that shows these kinds. Where that may be links, some calls are on those, and none sets
+/// what Linux does not set of one.
+pub fn call_of(alloc: Global, dice: &mut Dice, kinds: Kinds) -> Result<String, AllocError> {
+    let words = call(alloc, dice)?;
+    match kinds {
+        Kinds::Plain => Ok(words),
+        Kinds::All => {
+            if dice.below(6) == 0 || sets_no_link(words.as_str()) {
+                call_on_link(alloc, dice)
+            } else {
+                Ok(words)
+            }
+        }
+    }
 }
 
 /// Checks that the folder answers the call as the tree does, and counts no failure.
@@ -118,38 +150,53 @@ fn ask_some<D: Disk + Drop>(
     tree: &mut MemTree,
     folder: &mut Folder<D>,
     dice: &mut Dice,
+    kinds: Kinds,
     count: u32,
 ) -> Result<(), Fail> {
     for _ in 0..count {
-        let words = call(alloc, dice)?;
+        let words = call_of(alloc, dice, kinds)?;
         ask_both(alloc, tree, folder, words.as_str())?;
     }
     Ok(())
 }
 
-/// Makes so many random calls on an empty tree and on the folder, which is empty.
+/// Makes so many random calls on an empty tree and on the folder, which is empty and shows these kinds.
 pub fn ask_many<D: Disk + Drop>(
     alloc: Global,
     folder: &mut Folder<D>,
+    kinds: Kinds,
     count: u32,
 ) -> Result<(), Fail> {
     let mut tree = MemTree::new(alloc);
     let mut dice = Dice::new(20_251_122);
-    ask_some(alloc, &mut tree, folder, &mut dice, count)?;
+    ask_some(alloc, &mut tree, folder, &mut dice, kinds, count)?;
     expect_count(tree.failures(), 0)
 }
 
-fn ask_at(rt: &HostRuntime, root: &str, capacity: usize, count: u32) -> Result<(), Fail> {
-    let mut opened = open_with(rt, root, capacity)?;
-    ask_many(rt.alloc(), &mut opened.folder, count)
+fn ask_at(
+    rt: &HostRuntime,
+    root: &str,
+    capacity: usize,
+    kinds: Kinds,
+    count: u32,
+) -> Result<(), Fail> {
+    let mut opened = open_of(rt, root, capacity, kinds)?;
+    ask_many(rt.alloc(), &mut opened.folder, kinds, count)
 }
 
 // With room for all that there is, for little of it, and for nothing.
 #[test]
 fn both_answer_alike(rt: HostRuntime) -> Result<(), Fail> {
-    for (capacity, count) in [(CAPACITY, 6000), (6, 3000), (0, 1000)] {
+    for (capacity, kinds, count) in [
+        (CAPACITY, Kinds::Plain, 6000),
+        (6, Kinds::Plain, 3000),
+        (0, Kinds::Plain, 1000),
+        (CAPACITY, Kinds::All, 3000),
+        (6, Kinds::All, 1500),
+        (0, Kinds::All, 500),
+    ] {
         let root = new_folder(&rt, "random")?;
-        ask_at(&rt, root.as_str(), capacity, count)?;
+        ask_at(&rt, root.as_str(), capacity, kinds, count)?;
         fs::remove_dir_all(&rt, root.as_str())?;
     }
     Ok(())
@@ -160,14 +207,21 @@ fn ask_slowly(alloc: Global, opened: &mut Opened) -> Result<(), Fail> {
     let mut tree = MemTree::new(alloc);
     let mut dice = Dice::new(20_261_127);
     for _ in 0..200 {
-        ask_some(alloc, &mut tree, &mut opened.folder, &mut dice, 10)?;
+        ask_some(
+            alloc,
+            &mut tree,
+            &mut opened.folder,
+            &mut dice,
+            opened.kinds,
+            10,
+        )?;
         opened.watch.pass(600);
     }
     Ok(())
 }
 
 fn ask_slowly_at(rt: &HostRuntime, root: &str) -> Result<(), Fail> {
-    let mut opened = open_with(rt, root, 6)?;
+    let mut opened = open_of(rt, root, 6, Kinds::All)?;
     ask_slowly(rt.alloc(), &mut opened)
 }
 

@@ -2,6 +2,7 @@
 
 use crate::asking::path_of;
 use backing::MemTree;
+use disk::MemoryDisk;
 use std::alloc::{AllocError, Global};
 use std::test::Fail;
 use std::{env, fs, io, process};
@@ -16,6 +17,15 @@ pub fn sample_tree(alloc: Global) -> Result<MemTree, Fail> {
         return Ok(tree);
     }
     Err(Fail::from("not all of the sample was put"))
+}
+
+/// The same sample on a disk in memory.
+pub fn sample_disk(alloc: Global) -> Result<MemoryDisk, Fail> {
+    let mut disk = MemoryDisk::new(alloc)?;
+    disk.put_file(&path_of(alloc, "a")?, b"abc")?;
+    disk.put_dir(&path_of(alloc, "d")?)?;
+    disk.put_file(&path_of(alloc, "e")?, b"")?;
+    Ok(disk)
 }
 
 /// The path of the name in the folder.

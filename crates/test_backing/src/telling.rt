@@ -2,14 +2,16 @@
 //! folder.
 
 use crate::asking::{expect_count, path_of};
-use crate::opening::{CAPACITY, Opened, open, open_with};
+use crate::opening::{CAPACITY, Opened, open_of};
 use crate::sample_trees::{place_of, sample_folder};
 use crate::watch::Trick;
-use backing::{Answer, Details, Time};
+use backing::Answer;
+use payload::{Details, Time};
 use std::os::unix::fs::{MetadataExt, PermissionsExt, symlink};
 use std::os::unix::net::UnixListener;
 use std::test::Fail;
 use std::{fs, io};
+use terms::Kinds;
 
 /// For so many milliseconds a look at a folder is trusted.
 pub const TRUSTED: u64 = 1_000;
@@ -45,6 +47,8 @@ pub enum Step<'a> {
     Ask(&'a str, &'a str),
     /// The same, where these calls of the system are made.
     Costs(&'a str, &'a str, &'a str),
+    /// A call that is made only where root serves the folder, and its answer.
+    Root(&'a str, &'a str),
     /// A call, its answer where root serves the folder, and else.
     Rights(&'a str, &'a str, &'a str),
     /// The same, and a folder that was just opened has the same answer.
@@ -122,9 +126,15 @@ fn expect_own(rt: &HostRuntime, root: &str, opened: &mut Opened, name: &str) -> 
     expect_same(rt, root, opened, name)
 }
 
-/// Checks that a folder that was just opened has that answer.
-fn expect_anew(rt: &HostRuntime, root: &str, words: &str, wanted: &str) -> Result<(), Fail> {
-    let mut anew = open(rt, root)?;
+/// Checks that a folder that was just opened and shows these kinds has that answer.
+fn expect_anew(
+    rt: &HostRuntime,
+    root: &str,
+    kinds: Kinds,
+    words: &str,
+    wanted: &str,
+) -> Result<(), Fail> {
+    let mut anew = open_of(rt, root, CAPACITY, kinds)?;
     anew.expect(rt.alloc(), words, wanted)
 }
 
@@ -156,6 +166,11 @@ fn take(rt: &HostRuntime, root: &str, opened: &mut Opened, step: Step) -> Result
         Step::Play(trick) => opened.watch.play(trick),
         Step::Ask(words, wanted) => opened.expect(rt.alloc(), words, wanted)?,
         Step::Costs(words, wanted, calls) => expect_calls(rt, opened, words, wanted, calls)?,
+        Step::Root(words, wanted) => {
+            if opened.watch.user() == 0 {
+                opened.expect(rt.alloc(), words, wanted)?;
+            }
+        }
         Step::Rights(words, wanted, refused) => {
             let wanted = if opened.watch.user() == 0 {
                 wanted
@@ -166,7 +181,7 @@ fn take(rt: &HostRuntime, root: &str, opened: &mut Opened, step: Step) -> Result
         }
         Step::Both(words, wanted) => {
             opened.expect(rt.alloc(), words, wanted)?;
-            expect_anew(rt, root, words, wanted)?;
+            expect_anew(rt, root, opened.kinds, words, wanted)?;
         }
         Step::Same(name) => expect_same(rt, root, opened, name)?,
         Step::Own(name) => expect_own(rt, root, opened, name)?,
@@ -183,20 +198,44 @@ fn take_all(rt: &HostRuntime, root: &str, opened: &mut Opened, steps: &[Step]) -
 }
 
 /// Takes each step in the folder at that path.
-fn tell_at(rt: HostRuntime, root: &str, capacity: usize, steps: &[Step]) -> Result<(), Fail> {
-    let mut opened = open_with(&rt, root, capacity)?;
+fn tell_at(
+    rt: HostRuntime,
+    root: &str,
+    capacity: usize,
+    kinds: Kinds,
+    steps: &[Step],
+) -> Result<(), Fail> {
+    let mut opened = open_of(&rt, root, capacity, kinds)?;
     take_all(&rt, root, &mut opened, steps)
 }
 
-/// Takes each step in a new sample folder with that name, of which so many files and folders are kept open.
-pub fn tell_with(rt: HostRuntime, name: &str, capacity: usize, steps: &[Step]) -> Result<(), Fail> {
+/// Takes each step in a new sample folder with that name, of which so many files and folders are kept open and these kinds are
+/// shown.
+fn tell_in(
+    rt: HostRuntime,
+    name: &str,
+    capacity: usize,
+    kinds: Kinds,
+    steps: &[Step],
+) -> Result<(), Fail> {
     let root = sample_folder(&rt, name)?;
-    tell_at(rt, root.as_str(), capacity, steps)?;
+    tell_at(rt, root.as_str(), capacity, kinds, steps)?;
     fs::remove_dir_all(&rt, root.as_str())?;
     Ok(())
 }
 
-/// Takes each step in a new sample folder with that name.
+/// Takes each step in a new sample folder with that name, of which so many files and folders are kept open. Files and folders alone
+/// are shown.
+pub fn tell_with(rt: HostRuntime, name: &str, capacity: usize, steps: &[Step]) -> Result<(), Fail> {
+    tell_in(rt, name, capacity, Kinds::Plain, steps)
+}
+
+/// Takes each step in a new sample folder with that name, of which all kinds are shown.
+pub fn tell_all(rt: HostRuntime, name: &str, steps: &[Step]) -> Result<(), Fail> {
+    tell_in(rt, name, CAPACITY, Kinds::All, steps)
+}
+
+/// Takes each step in a new sample folder with that name, of which files and folders alone are shown.
 pub fn tell(rt: HostRuntime, name: &str, steps: &[Step]) -> Result<(), Fail> {
     tell_with(rt, name, CAPACITY, steps)
 }

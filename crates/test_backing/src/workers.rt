@@ -1,11 +1,13 @@
 //! Two folders that serve the same one, as two workers do: what one of them moves or removes the other one notices at once.
 
 use crate::asking::{expect, expect_count};
-use crate::random::{Dice, ask_both, call};
+use crate::random::{Dice, ask_both, call_of};
 use crate::sample_trees::{new_folder, place_of, sample_folder};
 use crate::telling::{Item, put};
 use crate::watch::{Trick, Watch};
 use crate::watched::Watched;
+use crate::worker_stories::Who::{First, Second};
+use crate::worker_stories::{CHANGED, FOLLOWED, LINKED, Who};
 use backing::MemTree;
 use disk::Unknown;
 use disk_folder::Folder;
@@ -18,6 +20,7 @@ use std::random::RandomSource;
 use std::rc::Rc;
 use std::sync::Wait;
 use std::test::Fail;
+use terms::Kinds;
 
 type Worker<R> = Folder<Unknown<Linux<Watched<LibC>, SharedFiles<OpenFd, R>>>>;
 
@@ -29,18 +32,19 @@ struct Two<R: Wait + Clone + Drop> {
     watch: Rc<Watch>,
 }
 
-/// The folder at that path, which is watched so.
+/// The folder at that path, which is watched so and shows these kinds.
 fn open_two<R: Wait + RandomSource + Clone + Drop>(
     rt: &R,
     alloc: Global,
     root: &str,
+    kinds: Kinds,
     watch: Watch,
 ) -> Result<Two<R>, Fail> {
     let Some(room) = NonZeroUsize::new(8) else {
         return Err(Fail::from("no number"));
     };
     let watch = Rc::new(alloc, watch)?;
-    let calls = Watched::new(LibC::new(alloc)?, watch.clone()?);
+    let calls = Watched::new(LibC::new(alloc, kinds)?, watch.clone()?);
     let store = SharedFiles::new(rt.clone()?, alloc, room, RandomState::new(rt)?)?;
     let linux = Linux::open(calls, store, alloc, root)?;
     let shared = linux.share()?;
@@ -52,51 +56,6 @@ fn open_two<R: Wait + RandomSource + Clone + Drop>(
         watch,
     })
 }
-
-/// Who asks.
-#[derive(Clone, Copy)]
-enum Who {
-    First,
-    Second,
-}
-
-use Who::{First, Second};
-
-const STEPS: &[(Who, &str, &str)] = &[
-    (First, "mkdir d/x", "done"),
-    (First, "make d/x/f", "done"),
-    (First, "write d/x/f 0 one", "wrote 3"),
-    (Second, "stat d/x/f", "file 3"),
-    (Second, "read d/x/f 0 9", "bytes 6f6e65"),
-    (First, "rename d/x z", "done"),
-    (Second, "stat d/x/f", "fault 2"),
-    (Second, "read d/x/f 0 9", "fault 2"),
-    (Second, "make d/x/g", "fault 2"),
-    (Second, "read z/f 0 9", "bytes 6f6e65"),
-    (Second, "write z/f 0 O", "wrote 1"),
-    (First, "read z/f 0 9", "bytes 4f6e65"),
-    (First, "mkdir d/x", "done"),
-    (Second, "list d/x", "names"),
-    (First, "rmdir d/x", "done"),
-    (Second, "stat d/x/f", "fault 2"),
-    (Second, "make d/x/f", "fault 2"),
-    (Second, "rename z/f d/f", "done"),
-    (First, "read z/f 0 9", "fault 2"),
-    (First, "read d/f 0 9", "bytes 4f6e65"),
-    (First, "remove d/f", "done"),
-    (Second, "read d/f 0 9", "fault 2"),
-    (Second, "write d/f 0 x", "fault 2"),
-    (Second, "make d/f", "done"),
-    (First, "read d/f 0 9", "bytes "),
-    (Second, "list d", "names f"),
-    (First, "write d/f 0 new", "wrote 3"),
-    (Second, "stat d/f", "file 3"),
-    (Second, "list .", "names a d/ e z/"),
-    (First, "remove a", "done"),
-    (Second, "stat a", "fault 2"),
-    (Second, "mkdir a", "done"),
-    (First, "stat a", "folder 0"),
-];
 
 fn ask<R: Wait + Clone + Drop>(
     alloc: Global,
@@ -111,8 +70,12 @@ fn ask<R: Wait + Clone + Drop>(
     }
 }
 
-fn take_all<R: Wait + Clone + Drop>(alloc: Global, two: &mut Two<R>) -> Result<(), Fail> {
-    for (who, words, wanted) in STEPS {
+fn take_all<R: Wait + Clone + Drop>(
+    alloc: Global,
+    two: &mut Two<R>,
+    steps: &[(Who, &str, &str)],
+) -> Result<(), Fail> {
+    for (who, words, wanted) in steps {
         ask(alloc, two, *who, words, wanted)?;
     }
     expect_count(two.first.failures(), 0)?;
@@ -123,29 +86,31 @@ fn tell<R: Wait + RandomSource + Clone + Drop>(
     rt: &R,
     alloc: Global,
     root: &str,
+    kinds: Kinds,
     watch: Watch,
+    steps: &[(Who, &str, &str)],
 ) -> Result<(), Fail> {
-    let mut two = open_two(rt, alloc, root, watch)?;
-    take_all(alloc, &mut two)
+    let mut two = open_two(rt, alloc, root, kinds, watch)?;
+    take_all(alloc, &mut two, steps)
 }
 
 #[test]
 fn what_one_worker_changes_the_other_one_notices(rt: HostRuntime) -> Result<(), Fail> {
     let root = sample_folder(&rt, "workers")?;
     let watch = Watch::new(&rt, root.as_str())?;
-    tell(&rt, rt.alloc(), root.as_str(), watch)?;
+    tell(&rt, rt.alloc(), root.as_str(), Kinds::Plain, watch, CHANGED)?;
     fs::remove_dir_all(&rt, root.as_str())?;
     Ok(())
 }
 
-/// A link that was followed is not kept open as the file: the next call of either worker finds none.
-const FOLLOWED: &[(Who, &str, &str)] = &[
-    (First, "read a 0 9", "fault 5"),
-    (First, "read a 0 9", "fault 2"),
-    (Second, "read a 0 9", "fault 2"),
-    (Second, "write a 0 xyz", "fault 2"),
-    (First, "stat e", "file 0"),
-];
+#[test]
+fn a_link_that_one_worker_makes_the_other_one_does_not_follow(rt: HostRuntime) -> Result<(), Fail> {
+    let root = sample_folder(&rt, "linked")?;
+    let watch = Watch::new(&rt, root.as_str())?;
+    tell(&rt, rt.alloc(), root.as_str(), Kinds::All, watch, LINKED)?;
+    fs::remove_dir_all(&rt, root.as_str())?;
+    Ok(())
+}
 
 fn follow<R: Wait + Clone + Drop>(alloc: Global, two: &mut Two<R>) -> Result<(), Fail> {
     two.watch.play(Trick::Replace);
@@ -162,7 +127,7 @@ fn tell_followed<R: Wait + RandomSource + Clone + Drop>(
     root: &str,
     watch: Watch,
 ) -> Result<(), Fail> {
-    let mut two = open_two(rt, alloc, root, watch)?;
+    let mut two = open_two(rt, alloc, root, Kinds::Plain, watch)?;
     follow(alloc, &mut two)
 }
 
@@ -222,7 +187,7 @@ fn tell_renewed<R: Wait + RandomSource + Clone + Drop>(
     root: &str,
     watch: Watch,
 ) -> Result<(), Fail> {
-    let mut two = open_two(rt, host.alloc(), root, watch)?;
+    let mut two = open_two(rt, host.alloc(), root, Kinds::Plain, watch)?;
     ask_each_renewed(host, root, &mut two)
 }
 
@@ -243,7 +208,7 @@ fn ask_either<R: Wait + RandomSource + Clone + Drop>(
     let mut tree = MemTree::new(alloc);
     let mut dice = Dice::new(20_261_126);
     for _ in 0..3000 {
-        let words = call(alloc, &mut dice)?;
+        let words = call_of(alloc, &mut dice, Kinds::All)?;
         if dice.below(2) == 0 {
             ask_both(alloc, &mut tree, &mut two.first, words.as_str())?;
         } else {
@@ -259,7 +224,7 @@ fn ask_either_at<R: Wait + RandomSource + Clone + Drop>(
     root: &str,
     watch: Watch,
 ) -> Result<(), Fail> {
-    let mut two = open_two(rt, alloc, root, watch)?;
+    let mut two = open_two(rt, alloc, root, Kinds::All, watch)?;
     ask_either(alloc, &mut two)
 }
 

@@ -1,8 +1,8 @@
 //! A system that is asked by words. What it opens is kept, and named by a number: 0 is the folder itself.
 
 use crate::words::{
-    WORDS, change_of, done_text, error_text, name_of, number, octal, stat_text, times_text,
-    words_of,
+    WORDS, change_of, done_text, error_text, is_link_text, name_of, number, octal, stat_text,
+    target_text, times_text, words_of,
 };
 use disk::{Access, DiskError, System};
 use paths::Name;
@@ -42,6 +42,7 @@ impl<S: System + Drop> Asked<S> {
             "dir" | "open" | "make" | "close" => self.ask_to_open(&words),
             "read" | "write" | "setlen" => self.ask_for_bytes(&words),
             "mkdir" | "remove" | "rmdir" | "rename" => self.ask_to_move(&words),
+            "link" | "target" => self.ask_about_links(&words),
             _ => self.ask_to_set(&words),
         }
     }
@@ -154,6 +155,25 @@ impl<S: System + Drop> Asked<S> {
             }
         };
         done_text(alloc, told)
+    }
+
+    /// `link` makes one with that text, and `target` tells the text of one.
+    fn ask_about_links(&mut self, words: &[&str; WORDS]) -> Result<String, AllocError> {
+        let alloc = self.alloc;
+        let Some(at) = self.open.get(number(words[1]) as usize) else {
+            return self.none();
+        };
+        let Some(name) = name_of(alloc, words[2])? else {
+            return self.none();
+        };
+        if words[0] == "target" {
+            return target_text(alloc, self.system.read_link(at, &name));
+        }
+        let text = words[3].as_bytes();
+        if !is_link_text(text) {
+            return self.none();
+        }
+        done_text(alloc, self.system.make_link(at, &name, text))
     }
 
     /// `mode`, `owner` or `times` of what is open, or `mode-at` and so on of a name.

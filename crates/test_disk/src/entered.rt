@@ -8,14 +8,20 @@ use linux_disk::{LibC, Linux, NoFiles};
 use std::fs;
 use std::sync::Arc;
 use std::test::Fail;
+use terms::Kinds;
 
-/// Takes each step in a new folder.
+/// Takes each step in a new folder, of which files and folders alone are shown.
 fn tell_shut(rt: HostRuntime, name: &str, steps: &[Step]) -> Result<(), Fail> {
+    tell_shut_of(rt, name, Kinds::Plain, steps)
+}
+
+/// The same, of which these kinds are shown.
+fn tell_shut_of(rt: HostRuntime, name: &str, kinds: Kinds, steps: &[Step]) -> Result<(), Fail> {
     let alloc = rt.alloc();
     let top = new_top(&rt, name)?;
     let path = format!(in alloc; "{}/in", top.as_str())?;
     let watch = Arc::new(alloc, Watch::new())?;
-    let calls = Watched::new(LibC::new(alloc)?, watch);
+    let calls = Watched::new(LibC::new(alloc, kinds)?, watch);
     match Linux::open(calls, NoFiles::new(), alloc, path.as_str()) {
         Ok(linux) => take_all(&rt, top.as_str(), linux, steps)?,
         Err(error) => return Err(Fail::from(("it cannot be opened", error))),
@@ -123,8 +129,12 @@ fn no_link_is_followed_there(rt: HostRuntime) -> Result<(), Fail> {
         Step::Ask("open 1 way r", "failed 40"),
         Step::Ask("mode-at 1 way 777", "failed 40"),
         Step::Ask("dir 1 b.shut", "NotFolder"),
+        Step::Ask("link 1 own f", "done"),
+        Step::Ask("target 1 own", "to f"),
         Step::Ask("rename 0 a.shut 0 away", "done"),
         Step::Put("a.shut", Item::Link("OUT")),
+        Step::Ask("target 1 f", "failed 40"),
+        Step::Ask("link 1 own f", "failed 40"),
         Step::Ask("inspect 1", "failed 40"),
         Step::Ask("look 1 f", "failed 40"),
         Step::Ask("open 1 f r", "failed 40"),
@@ -139,4 +149,27 @@ fn no_link_is_followed_there(rt: HostRuntime) -> Result<(), Fail> {
         Step::Ask("dir 0 a.shut", "NotFolder"),
     ];
     tell_shut(rt, "shut", STEPS)
+}
+
+/// A link there is shown, and nothing but its owner is set.
+#[test]
+fn links_are_shown_there(rt: HostRuntime) -> Result<(), Fail> {
+    const STEPS: &[Step] = &[
+        Step::Put("a.shut", Item::Folder(0o711)),
+        Step::Put("a.shut/f", Item::File("text")),
+        Step::Ask("dir 0 a.shut", "open 1"),
+        Step::Ask("link 1 own f", "done"),
+        Step::Ask("look 1 own", "link 1 777"),
+        Step::Ask("target 1 own", "to f"),
+        Step::Ask("target 1 f", "failed 22"),
+        Step::Ask("open 1 own r", "failed 40"),
+        Step::Ask("dir 1 own", "NotFolder"),
+        Step::Ask("mode-at 1 own 600", "failed 95"),
+        Step::Ask("times-at 1 own 1.0 1.0", "failed 38"),
+        Step::Ask("times-at 1 f 1.0 1.0", "failed 13"),
+        Step::Ask("rename 1 own 1 f", "done"),
+        Step::Ask("look 1 f", "link 1 777"),
+        Step::Ask("remove 1 f", "done"),
+    ];
+    tell_shut_of(rt, "links-there", Kinds::All, STEPS)
 }

@@ -16,6 +16,7 @@ use std::test::Fail;
 use std::thread::Threads;
 use std::time::{Clock, Duration};
 use std::{fs, thread};
+use terms::Kinds;
 
 type Served<R> = Linux<Watched<LibC>, SharedFiles<OpenFd, R>>;
 
@@ -29,7 +30,7 @@ fn open_shared<R: Wait + RandomSource + Clone + Drop>(
         return Err(Fail::from("no number"));
     };
     let store = SharedFiles::new(rt.clone()?, alloc, two, RandomState::new(rt)?)?;
-    let calls = Watched::new(LibC::new(alloc)?, watch);
+    let calls = Watched::new(LibC::new(alloc, Kinds::Plain)?, watch);
     match Linux::open(calls, store, alloc, path) {
         Ok(linux) => Ok(linux),
         Err(error) => Err(Fail::from(("it cannot be opened", error))),

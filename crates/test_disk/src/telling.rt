@@ -7,6 +7,7 @@ use std::os::unix::fs::{MetadataExt, PermissionsExt, symlink};
 use std::os::unix::net::UnixListener;
 use std::test::Fail;
 use std::{env, fs, io, process};
+use terms::Kinds;
 
 /// What others put at a place.
 #[derive(Clone, Copy)]
@@ -166,25 +167,30 @@ pub fn take_all<S: System + Drop>(
     Ok(())
 }
 
-/// The folder `in` of that one.
-pub fn open_in(rt: &HostRuntime, top: &str) -> Result<Linux<LibC, NoFiles<OpenFd>>, Fail> {
-    let path = format!(in rt.alloc(); "{top}/in")?;
-    match Linux::open(
-        LibC::new(rt.alloc())?,
-        NoFiles::new(),
-        rt.alloc(),
-        path.as_str(),
-    ) {
+/// The folder at that path, of which these kinds are shown.
+pub fn open_at(
+    rt: &HostRuntime,
+    path: &str,
+    kinds: Kinds,
+) -> Result<Linux<LibC, NoFiles<OpenFd>>, Fail> {
+    let calls = LibC::new(rt.alloc(), kinds)?;
+    match Linux::open(calls, NoFiles::new(), rt.alloc(), path) {
         Ok(linux) => Ok(linux),
         Err(error) => Err(Fail::from(("it cannot be opened", error))),
     }
 }
 
-/// Takes each step in a new folder. What is outside stays as it is.
+/// Takes each step in a new folder, of which files and folders alone are shown. What is outside stays as it is.
 pub fn tell(rt: HostRuntime, name: &str, steps: &[Step]) -> Result<(), Fail> {
+    tell_of(rt, name, Kinds::Plain, steps)
+}
+
+/// The same, of which these kinds are shown.
+pub fn tell_of(rt: HostRuntime, name: &str, kinds: Kinds, steps: &[Step]) -> Result<(), Fail> {
     let top = new_top(&rt, name)?;
     let before = outside(&rt, top.as_str())?;
-    let linux = open_in(&rt, top.as_str())?;
+    let path = format!(in rt.alloc(); "{}/in", top.as_str())?;
+    let linux = open_at(&rt, path.as_str(), kinds)?;
     take_all(&rt, top.as_str(), linux, steps)?;
     let after = outside(&rt, top.as_str())?;
     if after.as_str() != before.as_str() {

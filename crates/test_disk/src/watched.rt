@@ -187,6 +187,14 @@ impl<C: SystemCalls + Drop> SystemCalls for Watched<C> {
         self.calls.make_dir(dir, path, permissions)
     }
 
+    fn read_link(&self, dir: &C::Fd, path: &Page, buffer: &mut [u8]) -> Result<usize, DiskError> {
+        self.calls.read_link(dir, path, buffer)
+    }
+
+    fn make_link(&self, dir: &C::Fd, path: &Page, target: &[u8]) -> Result<(), DiskError> {
+        self.calls.make_link(dir, path, target)
+    }
+
     fn remove_file(&self, dir: &C::Fd, name: &[u8]) -> Result<(), DiskError> {
         self.calls.remove_file(dir, name)
     }

@@ -1,12 +1,14 @@
 //! What is asked as words, and answers as text.
 
-ghost use Rattle.std.specs.Prelude.{IfOk, IfSome};
-ghost use Rattle.disk.specs.Names.{IsLawfulName};
+ghost use Rattle.std.specs.Prelude.{IfOk, IfSome, IsTrue};
+ghost use Rattle.disk.specs.Names.{IsLawfulName, IsLinkText};
 
-use backing::{Kind, NewTime, Time};
+use backing::NewTime;
 use disk::{Change, DiskError, Stat, is_lawful};
 use paths::Name;
+use payload::{Kind, Special, Time};
 use std::alloc::{AllocError, Global};
+use std::str;
 
 /// So many words may be asked.
 pub const WORDS: usize = 6;
@@ -78,6 +80,24 @@ pub fn name_of(alloc: Global, text: &str) -> Result<Option<Name>, AllocError>
     }
 }
 
+/// Whether a link can have that text.
+pub fn is_link_text(text: &[u8]) -> bool
+    ensures { IsTrue result → IsLinkText text.now }
+{
+    !text.is_empty() && text.len() < 4_096 && text.iter().all(|byte| *byte != 0)
+}
+
+/// Where the link leads.
+pub fn target_text(alloc: Global, told: Result<Vec<u8>, DiskError>) -> Result<String, AllocError> {
+    match told {
+        Ok(target) => match str::from_utf8(target.as_slice()) {
+            Ok(text) => format!(in alloc; "to {text}"),
+            Err(_) => String::from_str(alloc, "no text"),
+        },
+        Err(error) => error_text(alloc, error),
+    }
+}
+
 pub fn error_text(alloc: Global, error: DiskError) -> Result<String, AllocError> {
     match error {
         DiskError::Failed(errno) => format!(in alloc; "failed {errno}"),
@@ -93,22 +113,28 @@ pub fn done_text(alloc: Global, told: Result<(), DiskError>) -> Result<String, A
     }
 }
 
-/// The kind, the size, the permission bits and the number of names.
+/// The kind, the size, of a device its number in place of that, and the permission bits.
 pub fn stat_text(alloc: Global, told: Result<Stat, DiskError>) -> Result<String, AllocError> {
-    match told {
-        Ok(stat) => {
-            let kind = match stat.kind {
-                Some(Kind::Folder) => "folder",
-                Some(Kind::File) => "file",
-                None => "other",
-            };
-            let details = stat.details;
-            match stat.kind {
-                None => String::from_str(alloc, kind),
-                Some(_) => { format!(in alloc; "{kind} {} {:o}", stat.size, details.permissions) }
-            }
-        }
-        Err(error) => error_text(alloc, error),
+    let stat = match told {
+        Ok(stat) => stat,
+        Err(error) => return error_text(alloc, error),
+    };
+    let Some(kind) = stat.kind else {
+        return String::from_str(alloc, "other");
+    };
+    let (kind, size) = kind_text(kind, stat.size);
+    format!(in alloc; "{kind} {size} {:o}", stat.details.permissions)
+}
+
+fn kind_text(kind: Kind, size: u64) -> (&'static str, u64) {
+    match kind {
+        Kind::Folder => ("folder", size),
+        Kind::File => ("file", size),
+        Kind::Link => ("link", size),
+        Kind::Special(Special::Pipe) => ("pipe", size),
+        Kind::Special(Special::Socket) => ("socket", size),
+        Kind::Special(Special::Character(device)) => ("character", u64::from(device)),
+        Kind::Special(Special::Block(device)) => ("block", u64::from(device)),
     }
 }
 

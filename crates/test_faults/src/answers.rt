@@ -2,8 +2,9 @@
 
 use crate::items::Told;
 use crate::world::SlowNode;
+use payload::{Details, Kind, Time};
 use std::alloc::{AllocError, Global};
-use wire::{Attributes, Details, Entry, Kind, ReplyBody, Time};
+use wire::{Attributes, Entry, ReplyBody};
 
 /// The answer to a request.
 #[derive(Drop)]
@@ -35,21 +36,21 @@ pub fn done(alloc: Global) -> Answer {
     plain(alloc, ReplyBody::Done)
 }
 
-/// The kind that a reply reports.
-pub fn kind_of(is_folder: bool) -> Kind {
-    if is_folder { Kind::Folder } else { Kind::File }
-}
-
 /// The beginning of 1970.
 const BEGINNING: Time = Time {
     seconds: 0,
     nanos: 0,
 };
 
-/// The details of all folders, or of all files.
-fn details_of(is_folder: bool) -> Details {
-    let (permissions, links) = if is_folder { (0o755, 2) } else { (0o644, 1) };
+/// The details of all nodes of that kind, but for the number of the node.
+fn details_of(number: u64, kind: Kind) -> Details {
+    let (permissions, links) = match kind {
+        Kind::Folder => (0o755, 2),
+        Kind::File | Kind::Special(_) => (0o644, 1),
+        Kind::Link => (0o777, 1),
+    };
     Details {
+        ino: number,
         permissions,
         links,
         uid: 0,
@@ -60,20 +61,29 @@ fn details_of(is_folder: bool) -> Details {
     }
 }
 
+/// The kind of what was found.
+pub fn kind_of(found: Told) -> Kind {
+    match found {
+        Told::File(_) => Kind::File,
+        Told::Link(_) => Kind::Link,
+        _ => Kind::Folder,
+    }
+}
+
 /// The entry of a node for what was found at its name.
 pub fn entry_of(node: SlowNode, found: Told) -> Entry {
-    let (is_folder, size) = match found {
-        Told::File(size) => (false, size),
-        _ => (true, 0),
+    let kind = kind_of(found);
+    let size = match found {
+        Told::File(size) | Told::Link(size) => size,
+        _ => 0,
     };
     Entry {
         node: node.number,
         generation: node.generation,
         attributes: Attributes {
-            ino: node.number,
-            kind: kind_of(is_folder),
+            kind,
             size,
-            details: details_of(is_folder),
+            details: details_of(node.number, kind),
         },
     }
 }

@@ -10,6 +10,9 @@ pub enum Ask {
     /// Of the root.
     List,
     MakeDir(&'static str),
+    /// With that text.
+    MakeLink(&'static str, &'static [u8]),
+    ReadLink(&'static str),
     Remove(&'static str),
     RemoveDir(&'static str),
     /// From one name to another.
@@ -38,6 +41,10 @@ pub fn is_ask(call: Call<'_>, ask: Ask) -> bool {
             },
             Ask::MakeDir(name),
         ) => is_at(path, name),
+        (Call::MakeLink { path, text }, Ask::MakeLink(name, bytes)) => {
+            is_at(path, name) && text == bytes
+        }
+        (Call::ReadLink(path), Ask::ReadLink(name)) => is_at(path, name),
         (Call::Remove(path), Ask::Remove(name)) => is_at(path, name),
         (Call::RemoveDir(path), Ask::RemoveDir(name)) => is_at(path, name),
         (Call::Rename { from, to }, Ask::Rename(source, target)) => {

@@ -13,6 +13,7 @@ use std::random::RandomSource;
 use std::sync::Wait;
 use table::{Counts, Limits, Seeds, Table};
 use table_image::Image;
+use terms::{AttributeSource, Kinds};
 use test_support::Handles;
 
 /// Sends its frames one after another, and takes all replies except one. In its frames and replies, handles of open
@@ -136,11 +137,12 @@ fn open_one<T: Ledgers>(
     Ok((table, share))
 }
 
-/// Serves a tree to a client, with a new table.
+/// Serves a tree to a client, with a new table. These kinds of files are shown.
 pub fn serve_on<H: Wait + RandomSource, T: Ledgers>(
     rt: &H,
     alloc: Global,
     blanks: Blanks,
+    kinds: Kinds,
     served: &mut Served<Watched<'_>, &Dirs>,
     client: &mut Client,
 ) -> Result<Over, AllocError>
@@ -151,7 +153,10 @@ pub fn serve_on<H: Wait + RandomSource, T: Ledgers>(
         return Err(AllocError);
     };
     let (mut table, mut share) = open_one::<T>(alloc, Limits::default(), seeds, blanks)?;
-    let settings = Settings::Fixed { uid: 0, gid: 0 };
+    let settings = Settings {
+        attributes: AttributeSource::Fixed { uid: 0, gid: 0 },
+        kinds,
+    };
     let end = serve(rt, alloc, client, served, &mut table, &mut share, settings);
     share.leave();
     let image = table.export()?;

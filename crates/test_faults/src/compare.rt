@@ -3,7 +3,7 @@
 ghost use Rattle.std.specs.Prelude.{◌≡◌};
 
 use crate::items::{Item, Told, stat};
-use crate::product::{Ran, count_names, has_bytes, serve_session, what_stands};
+use crate::product::{Ran, count_names, has_bytes, has_text, serve_session, what_stands};
 use crate::session::REQUESTS;
 use crate::slow::{Outcome, Plan, run_slow};
 use crate::world::{SlowNode, World, count_of};
@@ -97,10 +97,11 @@ fn is_item(
     if stands != stat(items, name) {
         return Ok(false);
     }
-    if stands == Told::Folder {
-        return Ok(count_names(alloc, tree, Some(name))? == 0);
+    match stands {
+        Told::Folder => Ok(count_names(alloc, tree, Some(name))? == 0),
+        Told::Link(_) => has_text(alloc, tree, name, &item.bytes),
+        _ => has_bytes(alloc, tree, name, &item.bytes),
     }
-    has_bytes(alloc, tree, name, &item.bytes)
 }
 
 /// How many items have a name.

@@ -2,10 +2,10 @@
 
 use crate::answers::{Answer, done, entry_of, failed, kind_of, plain};
 use crate::asks::Ask;
-use crate::items::{Item, Told};
+use crate::items::{Item, Told, stat};
 use crate::world::{Listed, SlowNode, World};
 use errno::EBADF;
-use payload::Payload;
+use payload::{Kind, Payload};
 use std::alloc::{AllocError, Global};
 use wire::{ReplyBody, encode_plus_dirent};
 
@@ -22,16 +22,6 @@ fn names_of(alloc: Global, items: &[Item]) -> Result<Vec<&'static str>, AllocErr
     Ok(names)
 }
 
-/// Whether there is a folder at the name.
-fn is_folder(items: &[Item], name: &str) -> bool {
-    for item in items {
-        if item.name == Some(name) {
-            return item.is_folder;
-        }
-    }
-    false
-}
-
 /// The same names sorted by bytes, each with what it is.
 fn listing_of(alloc: Global, items: &[Item]) -> Result<Vec<Listed>, AllocError> {
     let mut names = names_of(alloc, items)?;
@@ -40,7 +30,7 @@ fn listing_of(alloc: Global, items: &[Item]) -> Result<Vec<Listed>, AllocError> 
     for name in names {
         listing.push(Listed {
             name,
-            is_folder: is_folder(items, name),
+            kind: kind_of(stat(items, name)),
         })?;
     }
     Ok(listing)
@@ -49,8 +39,8 @@ fn listing_of(alloc: Global, items: &[Item]) -> Result<Vec<Listed>, AllocError> 
 /// A page that begins with `.` and `..`, for which no entry is given.
 fn page_of(alloc: Global) -> Result<Vec<u8>, AllocError> {
     let mut page = Vec::new(alloc);
-    encode_plus_dirent(&mut page, None, 1, kind_of(true), ".")?;
-    encode_plus_dirent(&mut page, None, 2, kind_of(true), "..")?;
+    encode_plus_dirent(&mut page, None, 1, Kind::Folder, ".")?;
+    encode_plus_dirent(&mut page, None, 2, Kind::Folder, "..")?;
     Ok(page)
 }
 
@@ -94,14 +84,12 @@ impl World {
     ) -> Result<(), AllocError> {
         let name = listed.name;
         match self.ask(Ask::Stat(name))? {
-            Told::Error(_) => {
-                encode_plus_dirent(page, None, next, kind_of(listed.is_folder), name)
-            }
+            Told::Error(_) => encode_plus_dirent(page, None, next, listed.kind, name),
             found => {
                 let node = self.enter(name)?;
                 given.push(node)?;
-                let kind = kind_of(found == Told::Folder);
-                encode_plus_dirent(page, Some(entry_of(node, found)), next, kind, name)
+                let entry = entry_of(node, found);
+                encode_plus_dirent(page, Some(entry), next, kind_of(found), name)
             }
         }
     }

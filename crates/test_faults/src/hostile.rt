@@ -1,6 +1,7 @@
 //! Frames that no well-behaved client sends, and the replies to them, byte for byte.
 
 use ledger::Posting;
+use terms::Kinds;
 
 /// A frame.
 #[derive(Clone, Copy)]
@@ -16,6 +17,8 @@ pub enum Frame {
 pub struct Row {
     /// Names the row if it fails.
     pub says: &'static str,
+    /// Which kinds of files are shown.
+    pub kinds: Kinds,
     /// What is sent after INIT.
     pub frames: &'static [Frame],
     /// What is replied after the reply to INIT, in hexadecimal digits.

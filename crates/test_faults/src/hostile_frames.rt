@@ -3,7 +3,9 @@
 use crate::frames::{ENTRY_A, ENTRY_E, LOOKUP_A, LOOKUP_E, OPEN_A, OPENED};
 use crate::hostile::Frame::{self, Filled, Whole};
 use crate::hostile::Row;
+use crate::hostile_links::{LAWLESS_LINKS, LINKS_NOT_SHOWN, LONGEST_LINK};
 use ledger::Posting;
+use terms::Kinds;
 
 /// EINVAL, ENOENT, ENAMETOOLONG, EPERM and EBADF for unique 7, and done.
 const INVALID: &str = "10000000 eaffffff 0700000000000000";
@@ -21,6 +23,7 @@ const DONE: &str = "10000000 00000000 0700000000000000";
 /// LOOKUP of a name of 255 bytes, and of 256 bytes.
 const LONG_NAMES: Row = Row {
     says: "long names",
+    kinds: Kinds::Plain,
     frames: &[
         Filled(
             "28010000 01000000 0700000000000000 0100000000000000 00000000 00000000 00000000 00000000",
@@ -42,6 +45,7 @@ const LONG_NAMES: Row = Row {
 /// LOOKUP of `..` and of the byte `ff`, and RENAME with only one zero byte.
 const LAWLESS_NAMES: Row = Row {
     says: "lawless names",
+    kinds: Kinds::Plain,
     frames: &[
         Whole(
             "2b000000 01000000 0700000000000000 0100000000000000 00000000 00000000 00000000 00000000 2e2e00",
@@ -61,6 +65,7 @@ const LAWLESS_NAMES: Row = Row {
 /// LOOKUP of `.fuse_hiddenx`, and CREATE of it with access mode 3, which is not valid.
 const RESERVED_NAMES: Row = Row {
     says: "reserved names",
+    kinds: Kinds::Plain,
     frames: &[
         Whole(
             "36000000 01000000 0700000000000000 0100000000000000 00000000 00000000 00000000 00000000 \
@@ -90,6 +95,7 @@ const ONE_ENTRY: &[Posting] = &[
 /// READ of 131,072 bytes and of 131,073, and WRITE of 65,536 bytes and of 65,537, with data of that size.
 const SIZES: Row = Row {
     says: "sizes",
+    kinds: Kinds::Plain,
     frames: &[
         Whole(LOOKUP_A),
         Whole(OPEN_A),
@@ -136,6 +142,7 @@ const RELEASE_ONE: Frame = Whole(
 /// READ of node 3 by handle 1, of node 2 by handle 2, which is open only for writing, and RELEASE twice.
 const HANDLES: Row = Row {
     says: "handles",
+    kinds: Kinds::Plain,
     frames: &[
         Whole(LOOKUP_A),
         Whole(OPEN_A),
@@ -188,6 +195,7 @@ const HANDLES: Row = Row {
 /// lookups, the second none.
 const FORGETS: Row = Row {
     says: "forgets",
+    kinds: Kinds::Plain,
     frames: &[
         Whole(LOOKUP_A),
         Whole(LOOKUP_A),
@@ -232,4 +240,7 @@ pub const ROWS: &[Row] = &[
     SIZES,
     HANDLES,
     FORGETS,
+    LAWLESS_LINKS,
+    LINKS_NOT_SHOWN,
+    LONGEST_LINK,
 ];

@@ -18,6 +18,7 @@ use std::marker::Brand;
 use std::random::RandomSource;
 use std::sync::Wait;
 use std::test::Fail;
+use terms::Kinds;
 
 /// A row that fails.
 #[derive(Debug, Drop)]
@@ -68,6 +69,7 @@ fn serve_pieces<H: Wait + RandomSource, T: Ledgers>(
     rt: &H,
     alloc: Global,
     blanks: Blanks,
+    kinds: Kinds,
     pieces: Vec<Vec<u8>>,
 ) -> Result<(Over, Vec<u8>), AllocError>
     requires names { blanks ≡ T.names }
@@ -79,7 +81,7 @@ fn serve_pieces<H: Wait + RandomSource, T: Ledgers>(
         dirs: &dirs,
     };
     let mut client = Client::new(alloc, pieces, 0, Sent::Taken);
-    let over = serve_on::<H, T>(rt, alloc, blanks, &mut served, &mut client)?;
+    let over = serve_on::<H, T>(rt, alloc, blanks, kinds, &mut served, &mut client)?;
     let Client { taken, .. } = client;
     Ok((over, taken))
 }
@@ -114,7 +116,7 @@ fn run_row<H: Wait + RandomSource, T: Ledgers>(
     let mut replies = bytes_of(alloc, AGREED)?;
     replies.extend_from_slice(&joined(alloc, row.replies)?)?;
     let pieces = pieces_of(alloc, row.frames)?;
-    let (over, taken) = serve_pieces::<H, T>(rt, alloc, blanks, pieces)?;
+    let (over, taken) = serve_pieces::<H, T>(rt, alloc, blanks, row.kinds, pieces)?;
     judge(row, &over, &taken, &replies)
 }
 
@@ -154,7 +156,14 @@ fn deep_frames(alloc: Global) -> Result<Vec<Vec<u8>>, Fail> {
 fn too_long_path(rt: HostRuntime) -> Result<(), Fail> {
     let alloc = rt.alloc();
     let frames = deep_frames(alloc)?;
-    let (over, taken) = serve_pieces::<HostRuntime, Brand>(&rt, alloc, Blanks::new(1), frames)?;
+    let blanks = Blanks::new(1);
+    let (over, taken) = serve_pieces::<HostRuntime, Brand>(
+        &rt,
+        alloc,
+        blanks,
+        Kinds::Plain,
+        frames,
+    )?;
     assert_eq!(rt; taken.len(), 80 + 16 * 144 + 16);
     assert!(rt; taken.ends_with(&bytes_of(alloc, "10000000 dcffffff 0700000000000000")?));
     assert_eq!(rt; over.image.postings.as_slice().len(), 32);

@@ -1,7 +1,8 @@
 //! A tree with names only in its root, as a plain list.
 
 use crate::asks::Ask;
-use errno::{EEXIST, EFBIG, EISDIR, ENOENT, ENOTDIR};
+use errno::{EEXIST, EFBIG, EINVAL, EISDIR, ENOENT, ENOTDIR};
+use payload::Kind;
 use std::alloc::{AllocError, Global};
 
 /// No file may be longer, in bytes.
@@ -12,8 +13,8 @@ const LONGEST: u64 = 1_048_576;
 pub struct Item {
     /// None once it has been removed.
     pub name: Option<&'static str>,
-    pub is_folder: bool,
-    /// Of a file.
+    pub kind: Kind,
+    /// Of a file, or the text of a link.
     pub bytes: Vec<u8>,
 }
 
@@ -24,6 +25,8 @@ pub enum Told {
     /// The size in bytes.
     File(u64),
     Folder,
+    /// The size of its text.
+    Link(u64),
     /// How many bytes were written.
     Wrote(u32),
     Error(i32),
@@ -34,17 +37,17 @@ pub fn sample_items(alloc: Global) -> Result<Vec<Item>, AllocError> {
     let mut items = Vec::new(alloc);
     items.push(Item {
         name: Some("a"),
-        is_folder: false,
+        kind: Kind::File,
         bytes: Vec::from_slice(alloc, b"abc")?,
     })?;
     items.push(Item {
         name: Some("d"),
-        is_folder: true,
+        kind: Kind::Folder,
         bytes: Vec::new(alloc),
     })?;
     items.push(Item {
         name: Some("e"),
-        is_folder: false,
+        kind: Kind::File,
         bytes: Vec::new(alloc),
     })?;
     Ok(items)
@@ -54,14 +57,25 @@ pub fn sample_items(alloc: Global) -> Result<Vec<Item>, AllocError> {
 pub fn stat(items: &[Item], name: &str) -> Told {
     for item in items {
         if item.name == Some(name) {
-            return if item.is_folder {
-                Told::Folder
-            } else {
-                Told::File(item.bytes.len() as u64)
+            let size = item.bytes.len() as u64;
+            return match item.kind {
+                Kind::Folder => Told::Folder,
+                Kind::File | Kind::Special(_) => Told::File(size),
+                Kind::Link => Told::Link(size),
             };
         }
     }
     Told::Error(ENOENT)
+}
+
+/// The text of the link at the name.
+pub fn text_at(alloc: Global, items: &[Item], name: &str) -> Result<Vec<u8>, AllocError> {
+    for item in items {
+        if item.name == Some(name) {
+            return Vec::from_slice(alloc, &item.bytes);
+        }
+    }
+    Ok(Vec::new(alloc))
 }
 
 /// Gives what is at the name another name, or none.
@@ -73,14 +87,19 @@ fn put_name(items: &mut Vec<Item>, name: &str, new: Option<&'static str>) {
     }
 }
 
-fn make_folder(items: &mut Vec<Item>, name: &'static str) -> Result<Told, AllocError> {
+fn make(
+    items: &mut Vec<Item>,
+    name: &'static str,
+    kind: Kind,
+    bytes: &[u8],
+) -> Result<Told, AllocError> {
     let alloc = *items.allocator();
     match stat(items, name) {
         Told::Error(_) => {
             items.push(Item {
                 name: Some(name),
-                is_folder: true,
-                bytes: Vec::new(alloc),
+                kind,
+                bytes: Vec::from_slice(alloc, bytes)?,
             })?;
             Ok(Told::Done)
         }
@@ -114,8 +133,8 @@ fn rename(items: &mut Vec<Item>, from: &str, to: &'static str) -> Told {
     match (stat(items, from), stat(items, to)) {
         (Told::Error(errno), _) => return Told::Error(errno),
         (_, _) if from == to => return Told::Done,
-        (Told::File(_), Told::Folder) => return Told::Error(EISDIR),
-        (Told::Folder, Told::File(_)) => return Told::Error(ENOTDIR),
+        (Told::File(_) | Told::Link(_), Told::Folder) => return Told::Error(EISDIR),
+        (Told::Folder, Told::File(_) | Told::Link(_)) => return Told::Error(ENOTDIR),
         (_, _) => {}
     }
     put_name(items, to, None);
@@ -157,6 +176,7 @@ fn write(items: &mut Vec<Item>, name: &str, offset: u64, data: &[u8]) -> Result<
     match stat(items, name) {
         Told::Error(errno) => return Ok(Told::Error(errno)),
         Told::Folder => return Ok(Told::Error(EISDIR)),
+        Told::Link(_) => return Ok(Told::Error(EINVAL)),
         _ => {}
     }
     if data.is_empty() {
@@ -172,12 +192,22 @@ fn write(items: &mut Vec<Item>, name: &str, offset: u64, data: &[u8]) -> Result<
     Ok(Told::Wrote(count))
 }
 
-/// Does the call. LIST does nothing: its names are those of the items.
+fn read_link(items: &[Item], name: &str) -> Told {
+    match stat(items, name) {
+        Told::Error(errno) => Told::Error(errno),
+        Told::Link(_) => Told::Done,
+        _ => Told::Error(EINVAL),
+    }
+}
+
+/// Does the call. LIST and READLINK do nothing: their names and their text are those of the items.
 pub fn work(items: &mut Vec<Item>, ask: Ask) -> Result<Told, AllocError> {
     Ok(match ask {
         Ask::Stat(name) => stat(items, name),
         Ask::List => Told::Done,
-        Ask::MakeDir(name) => make_folder(items, name)?,
+        Ask::MakeDir(name) => make(items, name, Kind::Folder, b"")?,
+        Ask::MakeLink(name, text) => make(items, name, Kind::Link, text)?,
+        Ask::ReadLink(name) => read_link(items, name),
         Ask::Remove(name) => remove(items, name),
         Ask::RemoveDir(name) => remove_folder(items, name),
         Ask::Rename(from, to) => rename(items, from, to),

@@ -20,6 +20,8 @@ mod hostile;
 #[cfg(test)]
 mod hostile_frames;
 #[cfg(test)]
+mod hostile_links;
+#[cfg(test)]
 mod hostile_runs;
 #[cfg(test)]
 mod items;

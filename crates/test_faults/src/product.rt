@@ -9,11 +9,12 @@ use crate::frames::FRAMES;
 use crate::items::{Item, Told, sample_items};
 use crate::slow::Plan;
 use crate::watched::Watched;
-use backing::{Answer, Call, Calls, Kind, MemTree};
+use backing::{Answer, Call, Calls, MemTree};
 use engine::{Served, SessionEnd};
 use handles::Dirs;
 use ledger::{Blanks, Ledgers};
 use paths::{Name, Path};
+use payload::Kind;
 use std::alloc::{AllocError, Global};
 use std::random::RandomSource;
 use std::sync::Wait;
@@ -46,10 +47,9 @@ fn plant(alloc: Global, tree: &mut MemTree, item: &Item) -> Result<(), AllocErro
         return Ok(());
     };
     let path = path_of(alloc, name)?;
-    let planted = if item.is_folder {
-        tree.put_dir(&path)
-    } else {
-        tree.put_file(&path, &item.bytes)
+    let planted = match item.kind {
+        Kind::Folder => tree.put_dir(&path),
+        Kind::File | Kind::Link | Kind::Special(_) => tree.put_file(&path, &item.bytes),
     };
     match planted {
         Ok(()) => Ok(()),
@@ -79,6 +79,11 @@ pub fn what_stands(alloc: Global, tree: &mut MemTree, name: &str) -> Result<Told
             ..
         } => Told::File(size),
         Answer::Stat {
+            kind: Kind::Link,
+            size,
+            ..
+        } => Told::Link(size),
+        Answer::Stat {
             kind: Kind::Folder,
             ..
         } => Told::Folder,
@@ -102,6 +107,20 @@ pub fn has_bytes(
     };
     Ok(match tree.call(call) {
         Answer::Bytes(found) => found.as_slice() == bytes,
+        _ => false,
+    })
+}
+
+/// Whether the link at the name has just this text.
+pub fn has_text(
+    alloc: Global,
+    tree: &mut MemTree,
+    name: &str,
+    text: &[u8],
+) -> Result<bool, AllocError> {
+    let path = path_of(alloc, name)?;
+    Ok(match tree.call(Call::ReadLink(&path)) {
+        Answer::Bytes(found) => found.as_slice() == text,
         _ => false,
     })
 }
@@ -140,7 +159,7 @@ pub fn serve_session<H: Wait + RandomSource, T: Ledgers>(
     };
     let frames = apart(alloc, FRAMES)?;
     let mut client = Client::new(alloc, frames, plan.declined, plan.fate);
-    let over = serve_on::<H, T>(rt, alloc, blanks, &mut served, &mut client)?;
+    let over = serve_on::<H, T>(rt, alloc, blanks, plan.kinds, &mut served, &mut client)?;
     let Served { calls, dirs: _ } = served;
     let are_due = calls.is_as_due();
     let Watched { tree, .. } = calls;

@@ -2,9 +2,10 @@
 
 use crate::answers::{Answer, done, entered, failed, plain};
 use crate::asks::Ask;
-use crate::items::Told;
+use crate::items::{Told, text_at};
 use crate::world::{SlowNode, World, is_open, node_at, node_of};
-use errno::{EBADF, EBUSY, EIO, EISDIR, ENOENT, ESTALE};
+use errno::{EBADF, EBUSY, EINVAL, EIO, EISDIR, ENOENT, ESTALE};
+use payload::Payload;
 use std::alloc::AllocError;
 use table_files::{Access, OpenEntry, OpenFile};
 use wire::ReplyBody;
@@ -60,6 +61,33 @@ impl World {
         }
     }
 
+    /// SYMLINK. All texts of the session are lawful.
+    pub fn make_link(
+        &mut self,
+        name: &'static str,
+        text: &'static [u8],
+    ) -> Result<Answer, AllocError> {
+        match self.ask(Ask::MakeLink(name, text))? {
+            Told::Error(errno) => Ok(failed(self.alloc, errno)),
+            _ => self.lookup(name),
+        }
+    }
+
+    /// READLINK.
+    pub fn read_link(&mut self, number: u64) -> Result<Answer, AllocError> {
+        let alloc = self.alloc;
+        let Some(name) = self.name_of(number) else {
+            return Ok(failed(alloc, ESTALE));
+        };
+        match self.ask(Ask::ReadLink(name))? {
+            Told::Error(errno) => Ok(failed(alloc, errno)),
+            _ => {
+                let text = text_at(alloc, &self.items, name)?;
+                Ok(plain(alloc, ReplyBody::Data(Payload::new(text))))
+            }
+        }
+    }
+
     /// OPEN for reading and writing.
     pub fn open(&mut self, number: u64) -> Result<Answer, AllocError> {
         let alloc = self.alloc;
@@ -72,6 +100,7 @@ impl World {
         match self.ask(Ask::Stat(name))? {
             Told::Error(errno) => return Ok(failed(alloc, errno)),
             Told::Folder => return Ok(failed(alloc, EISDIR)),
+            Told::Link(_) => return Ok(failed(alloc, EINVAL)),
             _ => {}
         }
         let handle = self.last_file.saturating_add(1);

@@ -16,13 +16,14 @@ use std::alloc::{AllocError, Global};
 use std::marker::Brand;
 use std::test::Fail;
 use table_image::Image;
+use terms::Kinds;
 use tree::Place;
 use wire::{Request, encode_request};
 
 /// How many calls of the tree and how many replies the session has.
-const CALLS: usize = 14;
+const CALLS: usize = 18;
 
-const REPLIES: u32 = 14;
+const REPLIES: u32 = 16;
 
 /// The replies if nothing fails, one after another.
 fn replies_of(alloc: Global) -> Result<Vec<u8>, Fail> {
@@ -151,7 +152,7 @@ fn failed_hiding(rt: HostRuntime) -> Result<(), Fail> {
         ..PLAIN
     };
     let replies = replies_of_failed_hiding(alloc)?;
-    let due = &ASKS[..13];
+    let due = &ASKS[..17];
     let mut ran = serve_session::<HostRuntime, Brand>(&rt, alloc, Blanks::new(1), &plan, due)?;
     let told = tell_hiding(alloc, &mut ran, &replies)?;
     assert_eq!(rt; told, (true, true, true));
@@ -179,7 +180,7 @@ fn failed_removal(rt: HostRuntime) -> Result<(), Fail> {
     let alloc = rt.alloc();
     let plan = Plan {
         fault: Some(FaultAt {
-            call: 14,
+            call: 18,
             fault: PlannedFault::Before(EIO),
         }),
         ..PLAIN
@@ -237,24 +238,34 @@ fn failing_replies(alloc: Global) -> Result<Vec<Plan>, AllocError> {
     Ok(plans)
 }
 
-// 28 runs, each compared with the slow program's.
+// 36 runs, each compared with the slow program's.
 #[test]
 fn each_call_fails(rt: HostRuntime) -> Result<(), Fail> {
     let plans = failing_calls(rt.alloc())?;
-    assert_eq!(rt; plans.len(), 28);
+    assert_eq!(rt; plans.len(), 36);
     for plan in &plans {
         compare::<HostRuntime, Brand>(&rt, rt.alloc(), Blanks::new(1), plan)?;
     }
     Ok(())
 }
 
-// 28 runs, each compared with the slow program's.
+// 32 runs, each compared with the slow program's.
 #[test]
 fn each_reply_fails(rt: HostRuntime) -> Result<(), Fail> {
     let plans = failing_replies(rt.alloc())?;
-    assert_eq!(rt; plans.len(), 28);
+    assert_eq!(rt; plans.len(), 32);
     for plan in &plans {
         compare::<HostRuntime, Brand>(&rt, rt.alloc(), Blanks::new(1), plan)?;
     }
     Ok(())
+}
+
+// Where files and folders alone are shown, the requests of links are not served, and all else is the same.
+#[test]
+fn files_and_folders_alone(rt: HostRuntime) -> Result<(), Fail> {
+    let plan = Plan {
+        kinds: Kinds::Plain,
+        ..PLAIN
+    };
+    compare::<HostRuntime, Brand>(&rt, rt.alloc(), Blanks::new(1), &plan)
 }

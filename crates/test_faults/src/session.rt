@@ -49,6 +49,14 @@ pub const REQUESTS: &[(u64, Operation<'static>)] = &[
         },
     ),
     (1, Operation::RemoveDir { name: "m" }),
+    (
+        1,
+        Operation::MakeLink {
+            name: "l",
+            text: b"a/b",
+        },
+    ),
+    (5, Operation::ReadLink),
     (1, Operation::OpenDir),
     (
         1,
@@ -75,9 +83,13 @@ pub const ASKS: &[Ask] = &[
     Ask::MakeDir("m"),
     Ask::Stat("m"),
     Ask::RemoveDir("m"),
+    Ask::MakeLink("l", b"a/b"),
+    Ask::Stat("l"),
+    Ask::ReadLink("l"),
     Ask::List,
     Ask::Stat("b"),
     Ask::Stat("d"),
+    Ask::Stat("l"),
     Ask::Remove(HIDDEN),
 ];
 
@@ -107,12 +119,24 @@ pub const LEDGER: &[Posting] = &[
         number: 4,
         generation: 0,
     },
+    Posting::Born {
+        number: 5,
+        generation: 0,
+    },
+    Posting::Entry {
+        number: 5,
+        generation: 0,
+    },
     Posting::Entry {
         number: 3,
         generation: 0,
     },
     Posting::Born {
-        number: 5,
+        number: 6,
+        generation: 0,
+    },
+    Posting::Entry {
+        number: 6,
         generation: 0,
     },
     Posting::Entry {
@@ -126,6 +150,7 @@ pub const STANDS: &[(&str, Told)] = &[
     ("a", Told::Error(2)),
     ("b", Told::File(0)),
     ("d", Told::Folder),
+    ("l", Told::Link(3)),
     ("e", Told::Error(2)),
     ("m", Told::Error(2)),
     (HIDDEN, Told::Error(2)),

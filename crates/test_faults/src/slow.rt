@@ -7,6 +7,7 @@ use engine::{Sent, SessionEnd};
 use errno::ENOSYS;
 use ledger::Posting;
 use std::alloc::{AllocError, Global};
+use terms::Kinds;
 use wire::{InitOut, Operation, Reply, ReplyBody, encode_reply};
 
 /// The reply to INIT 7.31 with 131,072 bytes of read-ahead and no flags.
@@ -22,7 +23,7 @@ const AGREED: InitOut = InitOut {
     max_pages: 0,
 };
 
-/// What fails in a run: a call of the tree, or a reply.
+/// What fails in a run, which is a call of the tree or a reply, and which kinds of files are shown.
 #[derive(Clone, Copy, Debug, PartialEq, Eq)]
 pub struct Plan {
     pub fault: Option<FaultAt>,
@@ -30,13 +31,15 @@ pub struct Plan {
     pub declined: u32,
     /// What becomes of that reply.
     pub fate: Sent,
+    pub kinds: Kinds,
 }
 
-/// Nothing fails.
+/// Nothing fails, and all kinds are shown.
 pub const PLAIN: Plan = Plan {
     fault: None,
     declined: 0,
     fate: Sent::Taken,
+    kinds: Kinds::All,
 };
 
 /// How the slow program ended.
@@ -61,6 +64,11 @@ impl World {
             Operation::Unlink { name } => self.unlink(name),
             Operation::Rename { name, new_name, .. } => self.rename(name, new_name),
             Operation::MakeDir { name, .. } => self.make_folder(name),
+            Operation::MakeLink { .. } | Operation::ReadLink if self.kinds == Kinds::Plain => {
+                Ok(failed(self.alloc, ENOSYS))
+            }
+            Operation::MakeLink { name, text } => self.make_link(name, text),
+            Operation::ReadLink => self.read_link(node),
             Operation::RemoveDir { name } => self.remove(name, Ask::RemoveDir(name)),
             Operation::OpenDir => self.open_folder(),
             Operation::ReadDirPlus { fh, .. } => self.read_entries(node, fh),
@@ -156,7 +164,7 @@ pub fn run_slow(
     plan: &Plan,
 ) -> Result<Outcome, AllocError> {
     let mut outcome = Outcome {
-        world: World::new(alloc, plan.fault)?,
+        world: World::new(alloc, plan.fault, plan.kinds)?,
         taken: Vec::new(alloc),
         offers: 0,
         end: SessionEnd::Closed { rest: 0 },

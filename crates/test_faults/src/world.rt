@@ -4,8 +4,10 @@ use crate::asks::Ask;
 use crate::items::{Item, Told, sample_items, work};
 use backing::PlannedFault;
 use ledger::Posting;
+use payload::Kind;
 use std::alloc::{AllocError, Global};
 use table_files::OpenEntry;
+use terms::Kinds;
 
 /// A living node other than the root.
 #[derive(Clone, Copy, Debug, PartialEq, Eq)]
@@ -21,7 +23,7 @@ pub struct SlowNode {
 #[derive(Clone, Copy, Debug, PartialEq, Eq)]
 pub struct Listed {
     pub name: &'static str,
-    pub is_folder: bool,
+    pub kind: Kind,
 }
 
 /// A call of the tree that fails, counted from 1.
@@ -48,6 +50,8 @@ pub struct World {
     /// The calls of the tree that were made.
     pub asks: Vec<Ask>,
     pub planned: Option<FaultAt>,
+    /// Which kinds of files are shown.
+    pub kinds: Kinds,
 }
 
 /// How many entries of the number and generation were given.
@@ -133,7 +137,7 @@ pub fn is_open(files: &[OpenEntry], number: u64) -> bool {
 
 impl World {
     /// A new table and the sample tree, of which that call fails.
-    pub fn new(alloc: Global, planned: Option<FaultAt>) -> Result<World, AllocError> {
+    pub fn new(alloc: Global, planned: Option<FaultAt>, kinds: Kinds) -> Result<World, AllocError> {
         Ok(World {
             alloc,
             items: sample_items(alloc)?,
@@ -146,6 +150,7 @@ impl World {
             last_folder: 0,
             asks: Vec::new(alloc),
             planned,
+            kinds,
         })
     }
 

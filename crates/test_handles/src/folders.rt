@@ -1,8 +1,8 @@
 //! Listings that are stored, lent and retired.
 
 use crate::making::{Given, listing, some_listing, told};
-use backing::Kind::{File, Folder};
 use handles::{Dirs, FolderLimits, Listing};
+use payload::Kind::{File, Folder};
 use std::alloc::{AllocError, Global};
 use std::test::Fail;
 use std::thread;

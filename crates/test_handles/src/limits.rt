@@ -1,8 +1,8 @@
 //! Listings that are stored up to the limits of the open folders, and beyond them.
 
 use crate::making::{Given, listing, some_listing};
-use backing::Kind::File;
 use handles::{Dirs, FolderLimits, MAX_OPEN_FOLDERS};
+use payload::Kind::File;
 use std::alloc::Global;
 use std::test::Fail;
 use std::thread;

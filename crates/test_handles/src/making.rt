@@ -1,8 +1,9 @@
 //! Making listings from given names, and showing them.
 
-use backing::{Child, Children, Kind};
+use backing::{Child, Children};
 use handles::{Listing, ListingFault};
 use paths::Name;
+use payload::{Kind, Special};
 use std::alloc::{AllocError, Global};
 use std::test::Fail;
 
@@ -33,7 +34,20 @@ pub(crate) fn some_listing(alloc: Global, given: Given) -> Option<Listing> {
     Listing::new(alloc, 1, children).ok()
 }
 
-/// The names with blanks between them, and a slash after that of a folder.
+/// What stands after a name, as `ls -F` has it. A device has the first letter of its kind.
+fn mark_of(kind: Kind) -> &'static str {
+    match kind {
+        Kind::Folder => "/",
+        Kind::File => "",
+        Kind::Link => "@",
+        Kind::Special(Special::Pipe) => "|",
+        Kind::Special(Special::Socket) => "=",
+        Kind::Special(Special::Character(_)) => "%c",
+        Kind::Special(Special::Block(_)) => "%b",
+    }
+}
+
+/// The names with blanks between them, each with the mark of its kind.
 pub(crate) fn told(alloc: Global, entries: &[Child]) -> Result<String, AllocError> {
     let mut text = String::new(alloc);
     for entry in entries {
@@ -41,9 +55,7 @@ pub(crate) fn told(alloc: Global, entries: &[Child]) -> Result<String, AllocErro
             text.push(' ')?;
         }
         text.push_str(entry.name.as_str())?;
-        if entry.kind == Kind::Folder {
-            text.push('/')?;
-        }
+        text.push_str(mark_of(entry.kind))?;
     }
     Ok(text)
 }

@@ -1,10 +1,11 @@
 //! What is listed, and which entries a page has.
 
 use crate::making::{Given, children, listing, told};
-use backing::Kind::{File, Folder};
 use backing::{Child, Children};
 use handles::{Listing, ListingFault, PageFault};
 use paths::Name;
+use payload::Kind::{self, File, Folder, Link};
+use payload::Special;
 use std::alloc::{AllocError, Global};
 use std::test::Fail;
 
@@ -12,10 +13,22 @@ const FILES: Given = &[("b", File), ("a", File)];
 
 const SAMPLE: Given = &[("e", File), ("d", Folder), ("a", File)];
 
+/// One of each kind.
+const ALL: Given = &[
+    ("s", Kind::Special(Special::Socket)),
+    ("p", Kind::Special(Special::Pipe)),
+    ("l", Link),
+    ("f", File),
+    ("d", Folder),
+    ("c", Kind::Special(Special::Character(1281))),
+    ("b", Kind::Special(Special::Block(1281))),
+];
+
 /// Names as a directory lists them, and the listing.
-const LISTED: [(Given, &str); 13] = [
+const LISTED: [(Given, &str); 14] = [
     (&[], "./ ../"),
     (SAMPLE, "./ ../ a d/ e"),
+    (ALL, "./ ../ b%b c%c d/ f l@ p| s="),
     (
         &[("é", File), ("z", File), ("Z", File), ("-", File)],
         "./ ../ - Z z é",

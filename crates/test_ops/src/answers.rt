@@ -1,15 +1,21 @@
 //! Short lists of answers.
 
 use crate::compare::Row;
-use backing::{Answer, Children, Details, Kind, Time};
-use payload::Payload;
+use backing::{Answer, Children};
+use payload::{Details, Kind, Payload, Special, Time};
 use std::alloc::{AllocError, Global};
 
 /// How many answers are tried for each call.
 const ANSWERS: u32 = 14;
 
-/// How many lists of at most three answers there are.
-pub const LISTS: u32 = 1 + ANSWERS + ANSWERS * ANSWERS + ANSWERS * ANSWERS * ANSWERS;
+/// How many lists of at most three of these there are.
+const SHORT: u32 = 1 + ANSWERS + ANSWERS * ANSWERS + ANSWERS * ANSWERS * ANSWERS;
+
+/// How many further answers are tried alone.
+const ALONE: u32 = 4;
+
+/// How many lists of answers there are.
+pub const LISTS: u32 = SHORT + ALONE;
 
 /// No two numbers are equal.
 const DETAILS: Details = Details {
@@ -41,6 +47,13 @@ fn stands(kind: Kind, size: u64) -> Answer {
     }
 }
 
+/// That many bytes.
+fn long(alloc: Global, len: usize) -> Result<Answer, AllocError> {
+    let mut bytes = Vec::with_capacity(alloc, len)?;
+    bytes.resize(len, b'x')?;
+    Ok(Answer::Bytes(Payload::new(bytes)))
+}
+
 /// An answer of each kind, of each shape, and with each sort of error number.
 fn answer_of(alloc: Global, number: u32) -> Result<Answer, AllocError> {
     Ok(match number {
@@ -57,12 +70,16 @@ fn answer_of(alloc: Global, number: u32) -> Result<Answer, AllocError> {
         10 => Answer::Fault(0),
         11 => Answer::Fault(-2),
         12 => Answer::Fault(4095),
-        _ => Answer::Fault(4096),
+        13 => Answer::Fault(4096),
+        14 => stands(Kind::Link, 5),
+        15 => stands(Kind::Special(Special::Pipe), 0),
+        16 => long(alloc, 4095)?,
+        _ => long(alloc, 4096)?,
     })
 }
 
 /// The list of answers with that number, after the row's first ones: the first list is empty, then come those with one
-/// answer, and so on.
+/// answer, and so on. The last ones have one further answer each.
 pub fn answers_of(alloc: Global, row: &Row<'_>, number: u32) -> Result<Vec<Answer>, AllocError> {
     let mut answers = Vec::new(alloc);
     for _ in 0..row.done {
@@ -70,6 +87,10 @@ pub fn answers_of(alloc: Global, row: &Row<'_>, number: u32) -> Result<Vec<Answe
     }
     for _ in 0..row.files {
         answers.push(answer_of(alloc, 1)?)?;
+    }
+    if number >= SHORT {
+        answers.push(answer_of(alloc, number - SHORT + ANSWERS)?)?;
+        return Ok(answers);
     }
     let mut left = number;
     for _ in 0..3 {

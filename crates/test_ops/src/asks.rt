@@ -34,6 +34,8 @@ pub enum Ask {
     /// With these permission bits, or the default.
     Make(Option<u32>),
     MakeDir(Option<u32>),
+    /// With a text of that many bytes.
+    MakeLink(usize),
     Remove,
     RemoveDir,
     /// From the path at one index to that at another.
@@ -46,6 +48,7 @@ pub enum Ask {
     SetLen(u64),
     /// From that byte on, that many.
     Read(u64, u32),
+    ReadLink,
     /// From that byte on, that many.
     Write(u64, usize),
     Sync,
@@ -157,9 +160,11 @@ pub fn ask_of(call: Call<'_>, paths: &[Path]) -> Ask {
         Call::List(path) if path.is(first) => Ask::List,
         Call::Make { path, permissions } if path.is(first) => Ask::Make(permissions),
         Call::MakeDir { path, permissions } if path.is(first) => Ask::MakeDir(permissions),
+        Call::MakeLink { path, text } if path.is(first) => Ask::MakeLink(text.len()),
         Call::Remove(path) if path.is(first) => Ask::Remove,
         Call::RemoveDir(path) if path.is(first) => Ask::RemoveDir,
         Call::Read { path, offset, size } if path.is(first) => Ask::Read(offset, size),
+        Call::ReadLink(path) if path.is(first) => Ask::ReadLink,
         Call::Write { path, offset, data } if path.is(first) => Ask::Write(offset, data.len()),
         Call::Sync(path) if path.is(first) => Ask::Sync,
         Call::Rename { from, to } => Ask::Rename(place_of(from, paths), place_of(to, paths)),

@@ -2,18 +2,15 @@
 
 use crate::compare::{Row, compare};
 use crate::rows::OF_THE_ROOT;
+use crate::setting::{FIXED, HOST};
 use ledger::Blanks;
 use ops::Settings;
+use payload::Time;
 use std::marker::Brand;
 use std::test::Fail;
 use table::Seeds;
+use wire::NewAttributes;
 use wire::Operation::{Create, MakeDir, SetAttr};
-use wire::{NewAttributes, Time};
-
-const FIXED: Settings = Settings::Fixed {
-    uid: 1000,
-    gid: 100,
-};
 
 /// The mode has more than permission bits, and no two numbers are equal.
 const NEW: NewAttributes = NewAttributes {
@@ -43,33 +40,33 @@ const SETS: &[Set] = &[
     // With a handle.
     Set(FIXED, 0x48, 0),
     // Nothing, and each bit alone.
-    Set(Settings::Host, 0, 0),
-    Set(Settings::Host, 1, 0),
-    Set(Settings::Host, 2, 0),
-    Set(Settings::Host, 4, 0),
-    Set(Settings::Host, 8, 0),
-    Set(Settings::Host, 0x10, 0),
-    Set(Settings::Host, 0x20, 0),
-    Set(Settings::Host, 0x40, 0),
-    Set(Settings::Host, 0x80, 0),
-    Set(Settings::Host, 0x100, 0),
-    Set(Settings::Host, 0x200, 0),
-    Set(Settings::Host, 0x400, 0),
+    Set(HOST, 0, 0),
+    Set(HOST, 1, 0),
+    Set(HOST, 2, 0),
+    Set(HOST, 4, 0),
+    Set(HOST, 8, 0),
+    Set(HOST, 0x10, 0),
+    Set(HOST, 0x20, 0),
+    Set(HOST, 0x40, 0),
+    Set(HOST, 0x80, 0),
+    Set(HOST, 0x100, 0),
+    Set(HOST, 0x200, 0),
+    Set(HOST, 0x400, 0),
     // An owner and a group.
-    Set(Settings::Host, 6, 0),
+    Set(HOST, 6, 0),
     // Both times.
-    Set(Settings::Host, 0x30, 0),
+    Set(HOST, 0x30, 0),
     // The current time and a given time, of one and of both.
-    Set(Settings::Host, 0x90, 0),
-    Set(Settings::Host, 0x120, 0),
-    Set(Settings::Host, 0x180, 0),
-    Set(Settings::Host, 0x1b0, 0),
+    Set(HOST, 0x90, 0),
+    Set(HOST, 0x120, 0),
+    Set(HOST, 0x180, 0),
+    Set(HOST, 0x1b0, 0),
     // The current time of one, and a given time of the other.
-    Set(Settings::Host, 0xa0, 0),
-    Set(Settings::Host, 0x110, 0),
+    Set(HOST, 0xa0, 0),
+    Set(HOST, 0x110, 0),
     // All at once, from the first call on, and from the third.
-    Set(Settings::Host, 0x7ff, 0),
-    Set(Settings::Host, 0x7ff, 2),
+    Set(HOST, 0x7ff, 0),
+    Set(HOST, 0x7ff, 2),
 ];
 
 #[test]
@@ -102,7 +99,7 @@ const MODES: &[(u32, u32)] = &[
 
 #[test]
 fn what_is_made(rt: HostRuntime) -> Result<(), Fail> {
-    for settings in [FIXED, Settings::Host] {
+    for settings in [FIXED, HOST] {
         for (mode, umask) in MODES {
             let (mode, umask) = (*mode, *umask);
             let name = "a";

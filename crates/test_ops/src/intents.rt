@@ -1,16 +1,13 @@
 //! The wants of SETATTR, by its bits.
 
+use crate::setting::{FIXED, HOST};
 use errno::EPERM;
 use ops::{Intent, Settings, Wanted, intent_of};
+use payload::Time;
 use std::test::Fail;
 use table_files::Need;
 use table_requests::Handle;
-use wire::{NewAttributes, Operation, ReplyBody, Request, Time};
-
-const FIXED: Settings = Settings::Fixed {
-    uid: 1000,
-    gid: 100,
-};
+use wire::{NewAttributes, Operation, ReplyBody, Request};
 
 /// What a SETATTR of node 5 with handle 7 begins with.
 #[derive(Clone, Copy, Debug, PartialEq, Eq)]
@@ -73,51 +70,51 @@ const ROWS: &[(Settings, u32, Begins)] = &[
     (FIXED, 0x448, Refused),
     (FIXED, 0x648, Refused),
     // Nothing, each known bit alone, and all except the handle.
-    (Settings::Host, 0, Freely),
-    (Settings::Host, 1, Freely),
-    (Settings::Host, 2, Freely),
-    (Settings::Host, 4, Freely),
-    (Settings::Host, 8, Freely),
-    (Settings::Host, 0x10, Freely),
-    (Settings::Host, 0x20, Freely),
-    (Settings::Host, 0x80, Freely),
-    (Settings::Host, 0x100, Freely),
-    (Settings::Host, 0x200, Freely),
-    (Settings::Host, 0x400, Freely),
-    (Settings::Host, 0x7bf, Freely),
+    (HOST, 0, Freely),
+    (HOST, 1, Freely),
+    (HOST, 2, Freely),
+    (HOST, 4, Freely),
+    (HOST, 8, Freely),
+    (HOST, 0x10, Freely),
+    (HOST, 0x20, Freely),
+    (HOST, 0x80, Freely),
+    (HOST, 0x100, Freely),
+    (HOST, 0x200, Freely),
+    (HOST, 0x400, Freely),
+    (HOST, 0x7bf, Freely),
     // The handle, without the size and with it.
-    (Settings::Host, 0x40, By(Need::Any)),
-    (Settings::Host, 0x41, By(Need::Any)),
-    (Settings::Host, 0x7f7, By(Need::Any)),
-    (Settings::Host, 0x48, By(Need::Writing)),
-    (Settings::Host, 0x49, By(Need::Writing)),
-    (Settings::Host, 0x7ff, By(Need::Writing)),
+    (HOST, 0x40, By(Need::Any)),
+    (HOST, 0x41, By(Need::Any)),
+    (HOST, 0x7f7, By(Need::Any)),
+    (HOST, 0x48, By(Need::Writing)),
+    (HOST, 0x49, By(Need::Writing)),
+    (HOST, 0x7ff, By(Need::Writing)),
     // Each other bit, alone and with known ones.
-    (Settings::Host, 0x800, Refused),
-    (Settings::Host, 0x1000, Refused),
-    (Settings::Host, 0x2000, Refused),
-    (Settings::Host, 0x4000, Refused),
-    (Settings::Host, 0x8000, Refused),
-    (Settings::Host, 0x10000, Refused),
-    (Settings::Host, 0x20000, Refused),
-    (Settings::Host, 0x40000, Refused),
-    (Settings::Host, 0x80000, Refused),
-    (Settings::Host, 0x100000, Refused),
-    (Settings::Host, 0x200000, Refused),
-    (Settings::Host, 0x400000, Refused),
-    (Settings::Host, 0x800000, Refused),
-    (Settings::Host, 0x1000000, Refused),
-    (Settings::Host, 0x2000000, Refused),
-    (Settings::Host, 0x4000000, Refused),
-    (Settings::Host, 0x8000000, Refused),
-    (Settings::Host, 0x10000000, Refused),
-    (Settings::Host, 0x20000000, Refused),
-    (Settings::Host, 0x40000000, Refused),
-    (Settings::Host, 0x80000000, Refused),
-    (Settings::Host, 0x801, Refused),
-    (Settings::Host, 0x848, Refused),
-    (Settings::Host, 0xfff, Refused),
-    (Settings::Host, 0xffffffff, Refused),
+    (HOST, 0x800, Refused),
+    (HOST, 0x1000, Refused),
+    (HOST, 0x2000, Refused),
+    (HOST, 0x4000, Refused),
+    (HOST, 0x8000, Refused),
+    (HOST, 0x10000, Refused),
+    (HOST, 0x20000, Refused),
+    (HOST, 0x40000, Refused),
+    (HOST, 0x80000, Refused),
+    (HOST, 0x100000, Refused),
+    (HOST, 0x200000, Refused),
+    (HOST, 0x400000, Refused),
+    (HOST, 0x800000, Refused),
+    (HOST, 0x1000000, Refused),
+    (HOST, 0x2000000, Refused),
+    (HOST, 0x4000000, Refused),
+    (HOST, 0x8000000, Refused),
+    (HOST, 0x10000000, Refused),
+    (HOST, 0x20000000, Refused),
+    (HOST, 0x40000000, Refused),
+    (HOST, 0x80000000, Refused),
+    (HOST, 0x801, Refused),
+    (HOST, 0x848, Refused),
+    (HOST, 0xfff, Refused),
+    (HOST, 0xffffffff, Refused),
 ];
 
 /// Values that do not matter here.

@@ -12,6 +12,8 @@ mod compare;
 #[cfg(test)]
 mod intents;
 #[cfg(test)]
+mod links;
+#[cfg(test)]
 mod rows;
 #[cfg(test)]
 mod setting;

@@ -7,9 +7,10 @@ use ops::Settings;
 use std::marker::Brand;
 use std::test::Fail;
 use table::Seeds;
+use terms::{AttributeSource, Kinds};
 use wire::Operation::{
-    self, Create, GetAttr, Lookup, MakeDir, Open, OpenDir, Read, ReadDirPlus, Release, RemoveDir,
-    Rename, Rename2, Sync, Unlink, Write,
+    self, Create, GetAttr, Lookup, MakeDir, MakeLink, Open, OpenDir, Read, ReadDirPlus, ReadLink,
+    Release, RemoveDir, Rename, Rename2, Sync, Unlink, Write,
 };
 
 /// Requests for the root, which is open as file 1, or for a name in it. Some have several scripts.
@@ -44,6 +45,11 @@ const OPERATIONS: &[Operation] = &[
         name: "a",
         mode: 0,
         umask: 0,
+    },
+    ReadLink,
+    MakeLink {
+        name: "a",
+        text: b"../b",
     },
     Unlink { name: "a" },
     RemoveDir { name: "a" },
@@ -95,13 +101,16 @@ const LAST: Form = Form {
     ..PLAIN
 };
 
-/// A request for the root, with fixed attributes.
+/// A request for the root, with fixed attributes and all kinds of files.
 pub const OF_THE_ROOT: Row = Row {
     before: Before::Nothing,
     node: 1,
     operation: GetAttr,
     form: PLAIN,
-    settings: Settings::Fixed { uid: 0, gid: 0 },
+    settings: Settings {
+        attributes: AttributeSource::Fixed { uid: 0, gid: 0 },
+        kinds: Kinds::All,
+    },
     done: 0,
     files: 0,
 };

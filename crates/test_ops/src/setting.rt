@@ -1,9 +1,26 @@
 //! What a request sets, and the permission bits of what it makes, by numbers: a part of the slow program.
 
 use crate::asks::Ask;
-use backing::{NewTime, Time};
+use backing::NewTime;
 use ops::Settings;
+use payload::Time;
+use terms::{AttributeSource, Kinds};
 use wire::NewAttributes;
+
+/// Fixed attributes of files and folders alone.
+pub const FIXED: Settings = Settings {
+    attributes: AttributeSource::Fixed {
+        uid: 1000,
+        gid: 100,
+    },
+    kinds: Kinds::Plain,
+};
+
+/// The host's attributes of all kinds of files.
+pub const HOST: Settings = Settings {
+    attributes: AttributeSource::Host,
+    kinds: Kinds::All,
+};
 
 /// The value, if all of these bits are set.
 fn part<T: Copy>(valid: u32, bits: u32, value: T) -> Option<T> {
@@ -15,14 +32,10 @@ fn part<T: Copy>(valid: u32, bits: u32, value: T) -> Option<T> {
 }
 
 /// The value that a time is set to: the current time takes precedence over a given one.
-fn new_time(valid: u32, bit: u32, now: u32, time: wire::Time) -> Option<NewTime> {
-    let told = Time {
-        seconds: time.seconds,
-        nanos: time.nanos,
-    };
+fn new_time(valid: u32, bit: u32, now: u32, time: Time) -> Option<NewTime> {
     match part(valid, now, NewTime::Now) {
         Some(present) => Some(present),
-        None => part(valid, bit, NewTime::At(told)),
+        None => part(valid, bit, NewTime::At(time)),
     }
 }
 
@@ -47,7 +60,7 @@ pub fn asks_to_set(valid: u32, size: u64, new: NewAttributes) -> [Option<Ask>; 4
 
 /// The permission bits of a new file or folder.
 pub fn made_with(settings: Settings, mode: u32, umask: u32) -> Option<u32> {
-    if settings == Settings::Host {
+    if settings.attributes == AttributeSource::Host {
         Some(mode % 4096 & !umask)
     } else {
         None

@@ -3,9 +3,10 @@
 
 use crate::asks::{Ask, Ends, Form, Stands};
 use crate::setting::{asks_to_set, made_with};
-use backing::{Answer, Kind};
-use errno::{EBUSY, EEXIST, EIO, EISDIR, ENOENT, ENOTDIR};
+use backing::Answer;
+use errno::{EBUSY, EEXIST, EINVAL, EIO, EISDIR, ENOENT, ENOTDIR};
 use ops::{FoundFile, Settings};
+use payload::Kind;
 use std::slice::Iter;
 use wire::Operation;
 
@@ -35,6 +36,8 @@ fn asks_of(settings: Settings, operation: Operation<'_>, same: bool) -> (Option<
             Some(Ask::Stat(0)),
         ),
         Operation::Read { offset, size, .. } => (Some(Ask::Read(offset, size)), None),
+        Operation::ReadLink => (Some(Ask::ReadLink), None),
+        Operation::MakeLink { text, .. } => (Some(Ask::MakeLink(text.len())), Some(Ask::Stat(0))),
         Operation::Write { offset, data, .. } => (Some(Ask::Write(offset, data.len())), None),
         Operation::Sync { .. } => (Some(Ask::Sync), None),
         Operation::OpenDir => (Some(Ask::List), None),
@@ -54,8 +57,8 @@ fn asks_of(settings: Settings, operation: Operation<'_>, same: bool) -> (Option<
     }
 }
 
-/// A folder has size 0, and no more is read or written than was asked for. Error numbers are 1 to 4,095. An answer of
-/// another kind than its call's is EIO.
+/// A folder has size 0, no more is read or written than was asked for, and a link's text has fewer than 4,096 bytes.
+/// Error numbers are 1 to 4,095. An answer of another kind than its call's is EIO.
 fn counts_as(ask: Ask, answer: &Answer) -> Counts {
     match (ask, answer) {
         (_, Answer::Fault(errno)) if (1..4096).contains(errno) => Counts::Error(*errno),
@@ -66,7 +69,7 @@ fn counts_as(ask: Ask, answer: &Answer) -> Counts {
                 size,
                 details,
             },
-        ) if *kind == Kind::File || *size == 0 => Counts::Found(FoundFile {
+        ) if *kind != Kind::Folder || *size == 0 => Counts::Found(FoundFile {
             kind: *kind,
             size: *size,
             details: *details,
@@ -77,13 +80,14 @@ fn counts_as(ask: Ask, answer: &Answer) -> Counts {
         (Ask::Read(_, size), Answer::Bytes(bytes)) if bytes.len() <= size as usize => {
             Counts::Bytes(bytes.len())
         }
+        (Ask::ReadLink, Answer::Bytes(text)) if text.len() < 4096 => Counts::Bytes(text.len()),
         (Ask::Write(_, given), Answer::Wrote(count)) if *count <= given => match u32::try_from(
             *count,
         ) {
             Ok(size) => Counts::Wrote(size),
             Err(_) => Counts::Error(EIO),
         },
-        (Ask::Read(..) | Ask::Write(..), _) => Counts::Error(EIO),
+        (Ask::Read(..) | Ask::ReadLink | Ask::Write(..), _) => Counts::Error(EIO),
         (_, Answer::Done) => Counts::Done,
         (_, _) => Counts::Error(EIO),
     }
@@ -93,16 +97,18 @@ fn counts_as(ask: Ask, answer: &Answer) -> Counts {
 /// target, which is its source.
 fn ends_with(operation: Operation<'_>, last: Counts) -> Ends {
     match (operation, last) {
-        (Operation::Lookup { .. } | Operation::MakeDir { .. }, Counts::Found(found)) => {
-            Ends::NewEntry(found)
-        }
+        (
+            Operation::Lookup { .. } | Operation::MakeDir { .. } | Operation::MakeLink { .. },
+            Counts::Found(found),
+        ) => Ends::NewEntry(found),
         (Operation::Create { .. }, Counts::Found(found)) => Ends::NewFile(found),
         (Operation::GetAttr, Counts::Found(found)) => Ends::Attributes(found),
-        (Operation::Open { .. }, Counts::Found(found)) if found.kind == Kind::Folder => {
-            Ends::Error(EISDIR)
-        }
-        (Operation::Open { .. }, Counts::Found(_)) => Ends::Opening,
-        (Operation::Read { .. }, Counts::Bytes(bytes)) => Ends::Bytes(bytes),
+        (Operation::Open { .. }, Counts::Found(found)) => match found.kind {
+            Kind::Folder => Ends::Error(EISDIR),
+            Kind::File => Ends::Opening,
+            Kind::Link | Kind::Special(_) => Ends::Error(EINVAL),
+        },
+        (Operation::Read { .. } | Operation::ReadLink, Counts::Bytes(bytes)) => Ends::Bytes(bytes),
         (Operation::Write { .. }, Counts::Wrote(size)) => Ends::Written(size),
         (Operation::OpenDir, Counts::Names(names)) => Ends::Listed(names),
         (Operation::Rename2 { flags: 1, .. }, Counts::Found(_)) => Ends::Error(EEXIST),

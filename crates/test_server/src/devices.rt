@@ -41,16 +41,16 @@ const OPEN_ROOT: &str =
 /// A run of the program on a new folder with the file `a`. After the listed reads the file system is no longer mounted,
 /// and after the listed writes all writes are complete.
 #[derive(Clone, Copy)]
-struct Run<'a> {
+pub struct Run<'a> {
     /// Names the row if it fails.
-    says: &'a str,
-    reads: &'a [Result<&'a str, i32>],
-    writes: &'a [Written],
+    pub says: &'a str,
+    pub reads: &'a [Result<&'a str, i32>],
+    pub writes: &'a [Written],
     /// The bytes of each write that took some, in order.
-    told: &'a [&'a str],
-    status: u8,
+    pub told: &'a [&'a str],
+    pub status: u8,
     /// What is written on standard error.
-    fault: &'a str,
+    pub fault: &'a str,
 }
 
 /// EINTR is 4, EAGAIN 11, ENOENT 2, ENODEV 19, EIO 5.
@@ -216,18 +216,30 @@ fn is_told(alloc: Global, log: &Log, told: &[&str]) -> io::Result<bool> {
     Ok(true)
 }
 
+/// Runs the program on that folder by one thread or so many workers. Fails if it does not end as the row says.
+pub fn run_row<H: Host>(
+    rt: &H,
+    host: &HostRuntime,
+    root: &str,
+    by: &str,
+    row: &Run,
+) -> Result<(), Fail> {
+    let alloc = rt.alloc();
+    let log: Log = Arc::new(alloc, Mutex::new(Vec::new(alloc)))?;
+    let device = device_of(alloc, row, &log)?;
+    let out = run_over(rt, host, root, by, Some(device));
+    let is_told = is_told(alloc, &log, row.told)?;
+    if !is_told || out.status != row.status || out.faults.as_slice() != row.fault.as_bytes() {
+        return Err(Fail::from((row.says, is_told, out.status)));
+    }
+    Ok(())
+}
+
 #[test]
 fn device_is_served_as_the_rows_say(rt: HostRuntime) -> Result<(), Fail> {
-    let alloc = rt.alloc();
     for row in RUNS {
         let root = new_folder(&rt, "device")?;
-        let log: Log = Arc::new(alloc, Mutex::new(Vec::new(alloc)))?;
-        let device = device_of(alloc, row, &log)?;
-        let out = run_over(&rt, &rt, root.as_str(), "-s", Some(device));
-        let is_told = is_told(alloc, &log, row.told)?;
-        if !is_told || out.status != row.status || out.faults.as_slice() != row.fault.as_bytes() {
-            return Err(Fail::from((row.says, is_told, out.status)));
-        }
+        run_row(&rt, &rt, root.as_str(), "-s", row)?;
         expect(&rt, root.as_str(), &[("a", Shown::File(3))])?;
     }
     Ok(())
@@ -237,16 +249,10 @@ fn device_is_served_as_the_rows_say(rt: HostRuntime) -> Result<(), Fail> {
 /// the order in which the workers run.
 #[test]
 fn device_is_served_by_workers(rt: HostRuntime) -> Result<(), Fail> {
-    let alloc = rt.alloc();
     for by in ["--workers=1", "--workers=2", "--workers=4"] {
         for row in &RUNS[..2] {
             let root = new_folder(&rt, "device-workers")?;
-            let log: Log = Arc::new(alloc, Mutex::new(Vec::new(alloc)))?;
-            let device = device_of(alloc, row, &log)?;
-            let out = run_over(&rt, &rt, root.as_str(), by, Some(device));
-            if out.status != 0 || !is_told(alloc, &log, row.told)? {
-                return Err(Fail::from((row.says, by, out.status)));
-            }
+            run_row(&rt, &rt, root.as_str(), by, row)?;
         }
     }
     Ok(())

@@ -13,6 +13,8 @@ mod host;
 #[cfg(test)]
 mod host_attributes;
 #[cfg(test)]
+mod links;
+#[cfg(test)]
 mod meetings;
 #[cfg(test)]
 mod pipes;

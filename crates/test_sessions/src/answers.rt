@@ -2,11 +2,12 @@
 
 use crate::stories::{Says, Stands};
 use ops::Settings;
-use payload::Payload;
+use payload::{Details, Kind, Payload, Time};
 use std::alloc::{AllocError, Global};
+use terms::AttributeSource;
 use wire::{
-    Attributes, Details, Entry, InitOut, NO_INO, Reply, ReplyBody, Time, encode_dirent,
-    encode_plus_dirent, encode_reply,
+    Attributes, Entry, InitOut, NO_INO, Reply, ReplyBody, encode_dirent, encode_plus_dirent,
+    encode_reply,
 };
 
 /// The beginning of 1970.
@@ -18,15 +19,20 @@ const BEGINNING: Time = Time {
 /// The attributes of a node. Fixed ones have its number as the inode number; in a tree in memory, whose files have no
 /// inode numbers, that is 0. Everything else is the same.
 fn attributes_of(settings: Settings, node: u64, stands: Stands) -> Attributes {
-    let (kind, size, permissions, links) = match stands {
-        Stands::File(size) => (wire::Kind::File, size, 0o644, 1),
-        Stands::Folder | Stands::Nothing => (wire::Kind::Folder, 0, 0o755, 2),
+    let (size, permissions, links) = match stands {
+        Stands::File(size) => (size, 0o644, 1),
+        Stands::Link(size) => (size, 0o777, 1),
+        Stands::Folder | Stands::Nothing => (0, 0o755, 2),
+    };
+    let ino = match settings.attributes {
+        AttributeSource::Host => 0,
+        AttributeSource::Fixed { .. } => node,
     };
     Attributes {
-        ino: if settings == Settings::Host { 0 } else { node },
-        kind,
+        kind: kind_of(stands),
         size,
         details: Details {
+            ino,
             permissions,
             links,
             uid: 0,
@@ -46,10 +52,11 @@ fn entry_of(settings: Settings, node: u64, stands: Stands) -> Entry {
     }
 }
 
-fn kind_of(stands: Stands) -> wire::Kind {
+fn kind_of(stands: Stands) -> Kind {
     match stands {
-        Stands::File(_) => wire::Kind::File,
-        Stands::Folder | Stands::Nothing => wire::Kind::Folder,
+        Stands::File(_) => Kind::File,
+        Stands::Link(_) => Kind::Link,
+        Stands::Folder | Stands::Nothing => Kind::Folder,
     }
 }
 

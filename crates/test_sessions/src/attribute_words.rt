@@ -1,23 +1,32 @@
-//! Command lines that say whose attributes are reported.
+//! Command lines that say what is shown of a folder.
 
+use crate::client::{ALL, ALL_OF_HOST, FIXED, OF_HOST};
 use crate::frames::run_words;
-use engine::Settings;
 use mirrord_programs::{Options, OptionsRefusal, read_options};
 use std::alloc::Global;
 use std::test::Fail;
+use terms::{AttributeSource, Kinds, Settings};
 
 /// A command line, and the settings that it leads to.
 #[derive(Clone, Copy)]
 struct Served(&'static [&'static str], Settings);
 
+/// Fixed attributes of user 5, and of group 7.
+const OWNER_FIVE: Settings = Settings {
+    attributes: AttributeSource::Fixed { uid: 5, gid: 0 },
+    kinds: Kinds::Plain,
+};
+
+const GROUP_SEVEN: Settings = Settings {
+    attributes: AttributeSource::Fixed { uid: 0, gid: 7 },
+    kinds: Kinds::Plain,
+};
+
 const SERVED: &[Served] = &[
-    Served(
-        &["mirrord", "pipe", "--root", "/srv"],
-        Settings::Fixed { uid: 0, gid: 0 },
-    ),
+    Served(&["mirrord", "pipe", "--root", "/srv"], FIXED),
     Served(
         &["mirrord", "pipe", "--root", "/srv", "--uid", "5"],
-        Settings::Fixed { uid: 5, gid: 0 },
+        OWNER_FIVE,
     ),
     Served(
         &[
@@ -30,7 +39,7 @@ const SERVED: &[Served] = &[
             "--uid",
             "5",
         ],
-        Settings::Fixed { uid: 5, gid: 0 },
+        OWNER_FIVE,
     ),
     Served(
         &[
@@ -41,11 +50,11 @@ const SERVED: &[Served] = &[
             "--root=/srv",
             "--socket=/s",
         ],
-        Settings::Fixed { uid: 0, gid: 7 },
+        GROUP_SEVEN,
     ),
     Served(
         &["mirrord", "pipe", "--root", "/srv", "--attributes", "host"],
-        Settings::Host,
+        OF_HOST,
     ),
     Served(
         &[
@@ -55,20 +64,53 @@ const SERVED: &[Served] = &[
             "--root=/srv",
             "--socket=/s",
         ],
-        Settings::Host,
+        OF_HOST,
+    ),
+    Served(
+        &["mirrord", "pipe", "--root", "/srv", "--kinds", "files"],
+        FIXED,
+    ),
+    Served(
+        &["mirrord", "pipe", "--root", "/srv", "--kinds", "all"],
+        ALL,
+    ),
+    Served(
+        &[
+            "mirrord",
+            "serve",
+            "--kinds=all",
+            "--root=/srv",
+            "--socket=/s",
+            "--attributes=host",
+        ],
+        ALL_OF_HOST,
+    ),
+    // A kernel is shown all, of the host.
+    Served(&["mirrord", "device", "--root", "/srv"], ALL_OF_HOST),
+    Served(
+        &["mirrord", "device", "--root", "/srv", "--kinds=files"],
+        OF_HOST,
+    ),
+    Served(
+        &["mirrord", "device", "--root", "/srv", "--attributes=fixed"],
+        ALL,
     ),
 ];
 
 /// The settings of a command line that serves a folder.
 fn settings_of(alloc: Global, words: &[&str]) -> Option<Settings> {
     match read_options(alloc, words) {
-        Ok(Options::Serve { terms, .. } | Options::Pipe { terms, .. }) => Some(terms.settings),
+        Ok(
+            Options::Serve { terms, .. }
+            | Options::Pipe { terms, .. }
+            | Options::Device { terms, .. },
+        ) => Some(terms.settings),
         _ => None,
     }
 }
 
 #[test]
-fn whose_attributes(rt: HostRuntime) -> Result<(), Fail> {
+fn what_is_shown(rt: HostRuntime) -> Result<(), Fail> {
     let mut row = 0u32;
     for Served(words, settings) in SERVED {
         if settings_of(rt.alloc(), words) != Some(*settings) {
@@ -86,6 +128,8 @@ struct Refused(&'static [&'static str], OptionsRefusal, &'static str);
 const WITH_OWNER: &str = "mirrord: with --attributes host there is no --uid and no --gid\n";
 
 const NEITHER: &str = "mirrord: --attributes is fixed or host\n";
+
+const NO_KINDS: &str = "mirrord: --kinds is files or all\n";
 
 const NO_COUNTS: &str = "mirrord: --counts is bounded or free\n";
 
@@ -159,6 +203,44 @@ const REFUSED: &[Refused] = &[
         &["mirrord", "serve", "--root=/", "--socket=/s", "--counts="],
         OptionsRefusal::Counts,
         NO_COUNTS,
+    ),
+    Refused(
+        &["mirrord", "pipe", "--root=/", "--kinds", "All"],
+        OptionsRefusal::Kinds,
+        NO_KINDS,
+    ),
+    Refused(
+        &["mirrord", "hex", "--kinds="],
+        OptionsRefusal::Kinds,
+        NO_KINDS,
+    ),
+    Refused(
+        &["mirrord", "device", "--root=/", "--kinds=links"],
+        OptionsRefusal::Kinds,
+        NO_KINDS,
+    ),
+    // A refusal because of the attributes comes before one because of the kinds, and that before one because of the counts.
+    Refused(
+        &[
+            "mirrord",
+            "pipe",
+            "--root=/",
+            "--kinds=none",
+            "--attributes=none",
+        ],
+        OptionsRefusal::Attributes,
+        NEITHER,
+    ),
+    Refused(
+        &[
+            "mirrord",
+            "pipe",
+            "--root=/",
+            "--counts=none",
+            "--kinds=none",
+        ],
+        OptionsRefusal::Kinds,
+        NO_KINDS,
     ),
     // A refusal because of the attributes comes before one because of the counts.
     Refused(

@@ -13,6 +13,7 @@ use std::alloc::{AllocError, Global};
 use std::random::RandomSource;
 use std::sync::Wait;
 use table::{Limits, Seeds, Table};
+use terms::{AttributeSource, Kinds};
 use test_support::Handles;
 
 /// Sends its frames one after another, and takes all replies except one. It records the traffic. In its frames and
@@ -131,8 +132,29 @@ impl Link for Client {
     ghost one_count = { λ _. refl };
 }
 
-/// Fixed attributes; the owner is user 0 and group 0.
-pub const FIXED: Settings = Settings::Fixed { uid: 0, gid: 0 };
+/// Fixed attributes, of files and folders alone; the owner is user 0 and group 0.
+pub const FIXED: Settings = Settings {
+    attributes: AttributeSource::Fixed { uid: 0, gid: 0 },
+    kinds: Kinds::Plain,
+};
+
+/// The same of all kinds of files.
+pub const ALL: Settings = Settings {
+    attributes: AttributeSource::Fixed { uid: 0, gid: 0 },
+    kinds: Kinds::All,
+};
+
+/// Attributes of the host, of files and folders alone.
+pub const OF_HOST: Settings = Settings {
+    attributes: AttributeSource::Host,
+    kinds: Kinds::Plain,
+};
+
+/// The same of all kinds of files.
+pub const ALL_OF_HOST: Settings = Settings {
+    attributes: AttributeSource::Host,
+    kinds: Kinds::All,
+};
 
 /// How a session ended, and the totals of its share.
 #[derive(Clone, Copy, Debug, PartialEq, Eq)]

@@ -1,7 +1,7 @@
 //! The frames that the tests send and the replies that they expect, in hexadecimal digits. Spaces are only for
 //! readability.
 
-use mirrord_programs::{DEFAULT_POSTINGS, LinuxDisks, Standard, hex_run, run};
+use mirrord_programs::{DEFAULT_POSTINGS, LinuxDisks, Standard, TreeServed, hex_run, run};
 use std::alloc::{AllocError, Global};
 use std::fs::File;
 use std::io;
@@ -12,6 +12,7 @@ use std::sync::Wait;
 use std::thread::Threads;
 use std::time::Clock;
 use table::Seeds;
+use terms::Kinds;
 
 /// INIT 7.31 with 131,072 bytes read ahead and no flags, unique 1.
 pub const INIT: &str =
@@ -100,6 +101,15 @@ pub fn lines_of(alloc: Global, lines: &[&str]) -> Result<Vec<u8>, AllocError> {
     Ok(digits)
 }
 
+/// The tree that `hex` serves by default, with or without the sample names.
+pub fn tree_with(sample: bool) -> TreeServed {
+    TreeServed {
+        sample,
+        kinds: Kinds::Plain,
+        postings: DEFAULT_POSTINGS,
+    }
+}
+
 /// Runs `hex` on these bytes, with or without the sample names.
 pub fn run_from(
     rt: &(impl Wait + RandomSource),
@@ -112,8 +122,7 @@ pub fn run_from(
     let ended = hex_run(
         rt,
         alloc,
-        sample,
-        DEFAULT_POSTINGS,
+        tree_with(sample),
         seeds,
         input,
         Vec::new(alloc),
@@ -140,16 +149,7 @@ pub fn run_into(
 ) -> io::Result<Run> {
     let mut faults = Vec::new(alloc);
     let seeds = Seeds::new(rt)?;
-    let ended = hex_run(
-        rt,
-        alloc,
-        true,
-        DEFAULT_POSTINGS,
-        seeds,
-        input,
-        room,
-        &mut faults,
-    );
+    let ended = hex_run(rt, alloc, tree_with(true), seeds, input, room, &mut faults);
     Ok(Run {
         status: ended.status,
         output: Vec::new(alloc),

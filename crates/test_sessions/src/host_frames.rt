@@ -1,9 +1,9 @@
 //! Attributes of a tree in memory, byte for byte: its files have no inode numbers, so 0 is reported. Of what is set,
 //! only a size is kept.
 
+use crate::client::OF_HOST;
 use crate::frames::LOOKUP_A;
 use crate::sampled::{Lines, tell_lines};
-use engine::Settings;
 use ledger::Blanks;
 use std::marker::Brand;
 use std::test::Fail;
@@ -50,7 +50,7 @@ const CREATE_N: &str =
 
 /// What is reported about it, and what is set.
 const OF_THE_HOST: Lines = Lines {
-    settings: Settings::Host,
+    settings: OF_HOST,
     lines: &[
         LOOKUP_A,
         GETATTR_ROOT,

@@ -9,13 +9,14 @@ use crate::stories::{Story, tell};
 use backing::PlannedFault::{self, After, Before};
 use errno::{EBADF, EFBIG, EIO, ENOSPC, EPERM};
 use ledger::{Blanks, Ledgers};
+use payload::Time;
 use std::alloc::Global;
 use std::marker::Brand;
 use std::random::RandomSource;
 use std::sync::Wait;
 use std::test::Fail;
+use wire::NewAttributes;
 use wire::Operation::{self, GetAttr, Lookup, Open, SetAttr};
-use wire::{NewAttributes, Time};
 
 const NEW: NewAttributes = NewAttributes {
     mode: 0o100640,

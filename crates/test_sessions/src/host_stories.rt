@@ -1,17 +1,17 @@
 //! Attributes of the host, from a tree in memory.
 
+use crate::client::OF_HOST;
 use crate::stories::Says::{Attributes, Created, Entries, Entry, Opened};
 use crate::stories::Stands::{File, Folder};
 use crate::stories::{NOTHING, Story, tell};
 use ledger::Blanks;
-use ops::Settings;
 use std::marker::Brand;
 use std::test::Fail;
 use wire::Operation::{Create, GetAttr, Lookup, MakeDir, OpenDir, ReadDirPlus};
 
 /// Attributes are the host's, and there are no requests.
 pub const HOST: Story = Story {
-    settings: Settings::Host,
+    settings: OF_HOST,
     ..NOTHING
 };
 

@@ -52,9 +52,15 @@ mod last_handles;
 #[cfg(test)]
 mod lines;
 #[cfg(test)]
+mod link_frames;
+#[cfg(test)]
+mod links;
+#[cfg(test)]
 mod listings;
 #[cfg(test)]
 mod lookups;
+#[cfg(test)]
+mod moved_links;
 #[cfg(test)]
 mod names;
 #[cfg(test)]
@@ -65,6 +71,8 @@ mod open_folders;
 mod recorded;
 #[cfg(test)]
 mod refused_exchanges;
+#[cfg(test)]
+mod refused_links;
 #[cfg(test)]
 mod renames;
 #[cfg(test)]

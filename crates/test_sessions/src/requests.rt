@@ -1,7 +1,8 @@
 //! Requests for stories. They have numbers that do not matter with fixed attributes: all of these are 0.
 
-use wire::Operation::{self, Create, MakeDir};
-use wire::{NewAttributes, Time};
+use payload::Time;
+use wire::NewAttributes;
+use wire::Operation::{self, Create, MakeDir, MakeLink};
 
 /// The values that a SETATTR does not set.
 pub const NOTHING_NEW: NewAttributes = NewAttributes {
@@ -59,6 +60,15 @@ pub const MAKE_C: Operation<'static> = MakeDir {
     mode: 0,
     umask: 0,
 };
+
+/// A link in the root, whose text leads nowhere.
+pub const LINK_L: (u64, Operation<'static>) = (
+    1,
+    MakeLink {
+        name: "l",
+        text: b"d/none",
+    },
+);
 
 pub const MAKE_RESERVED: Operation<'static> = MakeDir {
     name: ".fuse_hiddenx",

@@ -2,9 +2,9 @@
 
 use crate::frames::{
     ABSENT, AGREED, ENTRY_A, ENTRY_E_REBORN, FORGET_FIVE, FORGET_THREE, FULL, INIT, LOOKUP_A,
-    LOOKUP_E, lines_of, run_from, run_words,
+    LOOKUP_E, lines_of, run_from, run_words, tree_with,
 };
-use mirrord_programs::{DEFAULT_POSTINGS, hex_run};
+use mirrord_programs::hex_run;
 use std::io;
 use std::io::{ErrorKind, Write};
 use std::test::Fail;
@@ -131,8 +131,7 @@ fn broken_output(rt: HostRuntime) -> Result<(), Fail> {
     let ended = hex_run(
         &rt,
         alloc,
-        true,
-        DEFAULT_POSTINGS,
+        tree_with(true),
         Seeds::new(&rt)?,
         input.as_slice(),
         broken,
@@ -148,8 +147,7 @@ fn broken_output(rt: HostRuntime) -> Result<(), Fail> {
     let ended = hex_run(
         &rt,
         alloc,
-        true,
-        DEFAULT_POSTINGS,
+        tree_with(true),
         Seeds::new(&rt)?,
         input.as_slice(),
         full,
@@ -170,8 +168,7 @@ fn broken_standard_error(rt: HostRuntime) -> Result<(), Fail> {
     let ended = hex_run(
         &rt,
         alloc,
-        true,
-        DEFAULT_POSTINGS,
+        tree_with(true),
         Seeds::new(&rt)?,
         b"2".as_slice(),
         Vec::new(alloc),

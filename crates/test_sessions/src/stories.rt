@@ -5,13 +5,14 @@ ghost use Rattle.std.specs.Prelude.{◌≡◌};
 
 use crate::answers::replies_of;
 use crate::client::{Client, FIXED, serve_client};
-use backing::{Answer, Call, Calls, Kind, MemTree, PlannedFault};
+use backing::{Answer, Call, Calls, MemTree, PlannedFault};
 use engine::{Served, SessionEnd};
 use handles::{Dirs, Folders};
 use ledger::{Blanks, Ledgers};
 use mirrord_programs::new_tree;
 use ops::Settings;
 use paths::{Name, Path};
+use payload::Kind;
 use std::alloc::{AllocError, Global};
 use std::random::RandomSource;
 use std::sync::Wait;
@@ -24,7 +25,7 @@ use wire::{Operation, Request, encode_request};
 #[derive(Clone, Copy)]
 pub struct Story<'a> {
     pub says: &'a str,
-    /// Whose attributes are reported.
+    /// What is shown of the tree.
     pub settings: Settings,
     /// How many nodes there may be, including the root.
     pub nodes: u64,
@@ -50,6 +51,8 @@ pub enum Stands {
     Folder,
     /// A file of that many bytes.
     File(u64),
+    /// A symbolic link whose text has that many bytes.
+    Link(u64),
     Nothing,
 }
 
@@ -92,7 +95,7 @@ pub enum Says<'a> {
     Opened(u64),
     /// The entry of an empty file that was created and of a node that was born once, and its handle.
     Created(u64, u64),
-    /// Bytes of a file.
+    /// Bytes of a file, or the text of a link.
     Bytes(&'a [u8]),
     /// How many bytes were written.
     Wrote(u32),
@@ -155,6 +158,11 @@ fn what_stands(alloc: Global, tree: &mut MemTree, names: &[&str]) -> Result<Stan
             size,
             ..
         } => Stands::File(size),
+        Answer::Stat {
+            kind: Kind::Link,
+            size,
+            ..
+        } => Stands::Link(size),
         Answer::Stat {
             kind: Kind::Folder,
             ..

@@ -1,11 +1,11 @@
 //! Command lines.
 
 use clap::error::ErrorKind;
-use engine::Settings;
 use mirrord_programs::{Options, read_options};
 use mirrord_server::{Bounds, Terms, Unserved};
 use std::test::Fail;
 use table::Counts;
+use terms::{AttributeSource, Kinds, Settings};
 
 /// How far a table may grow by default.
 const DEFAULT: Bounds = Bounds {
@@ -18,7 +18,10 @@ const DEFAULT: Bounds = Bounds {
 
 fn terms(uid: u32, gid: u32, bounds: Bounds) -> Terms {
     Terms {
-        settings: Settings::Fixed { uid, gid },
+        settings: Settings {
+            attributes: AttributeSource::Fixed { uid, gid },
+            kinds: Kinds::Plain,
+        },
         bounds,
     }
 }
@@ -28,12 +31,21 @@ fn hex_with_and_without_samples(rt: HostRuntime) -> Result<(), Fail> {
     let bare = read_options(rt.alloc(), &["mirrord", "hex"])?;
     let unsampled = Options::Hex {
         sample: false,
+        kinds: Kinds::Plain,
         postings: 1_048_576,
     };
     assert_eq!(rt; bare, unsampled);
-    let words = ["mirrord", "hex", "--sample", "--postings", "6"];
+    let words = [
+        "mirrord",
+        "hex",
+        "--sample",
+        "--kinds=all",
+        "--postings",
+        "6",
+    ];
     let sampled = Options::Hex {
         sample: true,
+        kinds: Kinds::All,
         postings: 6,
     };
     assert_eq!(rt; read_options(rt.alloc(), &words)?, sampled);

@@ -7,6 +7,7 @@ use paths::{Name, Path};
 use std::alloc::{AllocError, Global};
 use std::mem;
 use std::sync::{Arc, Mutex, Wait};
+use terms::{AttributeSource, Kinds};
 use wire::{Operation, Request, encode_request};
 
 /// How the frames arrive.
@@ -55,7 +56,10 @@ pub enum Shows {
     Other,
 }
 
-pub const SETTINGS: Settings = Settings::Fixed { uid: 0, gid: 0 };
+pub const SETTINGS: Settings = Settings {
+    attributes: AttributeSource::Fixed { uid: 0, gid: 0 },
+    kinds: Kinds::Plain,
+};
 
 const INIT: (u64, Operation<'static>) = (
     0,

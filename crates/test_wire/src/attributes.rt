@@ -4,9 +4,10 @@ use crate::bytes::{SIXTEEN, bytes_of};
 use crate::frames::{Row, are_read, are_written};
 use crate::replies::Says::{Attr, Created, Given};
 use crate::replies::{OF_A_FILE, Row as Told, are_told};
+use payload::{Details, Kind, Time};
 use std::test::Fail;
 use wire::Operation::{Create, MakeDir, SetAttr};
-use wire::{Attributes, Details, Entry, Kind, NewAttributes, Time, encode_plus_dirent};
+use wire::{Attributes, Entry, NewAttributes, encode_plus_dirent};
 
 /// No two fields that are read have the same bytes.
 const ASKED: &[Row] = &[
@@ -72,10 +73,10 @@ const ASKED: &[Row] = &[
 
 /// The attributes of a file of 1,025 bytes, which takes three blocks. No two numbers are equal.
 const OF_THE_HOST: Attributes = Attributes {
-    ino: 0x0102030405060708,
     kind: Kind::File,
     size: 1025,
     details: Details {
+        ino: 0x0102030405060708,
         permissions: 0o4751,
         links: 9,
         uid: 1000,
@@ -116,10 +117,10 @@ const NODE: &str =
 
 /// A folder with all permission bits set: the lowest twelve are reported.
 const OPEN_FOLDER: Attributes = Attributes {
-    ino: 7,
     kind: Kind::Folder,
     size: 0,
     details: Details {
+        ino: 7,
         permissions: 0xffffffff,
         ..OF_A_FILE
     },

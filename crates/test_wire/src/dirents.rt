@@ -2,12 +2,12 @@
 
 use crate::bytes::{SIXTEEN, bytes_of};
 use crate::replies::OF_A_FILE;
-use payload::Payload;
+use payload::{Kind, Payload};
 use std::alloc::Global;
 use std::test::Fail;
 use wire::{
-    Attributes, Entry, ForgetOne, Kind, NO_INO, Reply, ReplyBody, encode_dirent,
-    encode_plus_dirent, encode_reply, split_pair,
+    Attributes, Entry, ForgetOne, NO_INO, Reply, ReplyBody, encode_dirent, encode_plus_dirent,
+    encode_reply, split_pair,
 };
 
 /// The offset of the next entry, its type, its name, and its bytes in digits.
@@ -71,7 +71,6 @@ const PLUS: &[PlusRow] = &[
             node: 2,
             generation: 1,
             attributes: Attributes {
-                ino: 2,
                 kind: Kind::File,
                 size: 3,
                 details: OF_A_FILE,

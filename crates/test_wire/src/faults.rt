@@ -13,7 +13,7 @@ use wire::{
 
 /// A piece of a body.
 #[derive(Clone, Copy, Debug)]
-enum Piece<'a> {
+pub enum Piece<'a> {
     Bytes(&'a [u8]),
     /// A byte, and how many times.
     Each(u8, usize),
@@ -21,7 +21,7 @@ enum Piece<'a> {
 
 /// An opcode, what follows the header, and the fault that is returned.
 #[derive(Clone, Copy, Debug)]
-struct Row<'a>(u32, &'a [Piece<'a>], Option<WireFault>);
+pub struct Row<'a>(pub u32, pub &'a [Piece<'a>], pub Option<WireFault>);
 
 /// The length of a body is not that of its opcode, or there are not as many zero bytes as names.
 const BODIES: &[Row] = &[
@@ -196,11 +196,11 @@ const NAMES: &[Row] = &[
 /// Opcodes that are not served are reported before faults in a body, and a wrong frame length before the opcode.
 const OPCODES: &[Row] = &[
     Row(0, &[], Some(Opcode)),
-    Row(5, &[Bytes(b"/\0")], Some(Opcode)),
+    Row(8, &[Bytes(b"/\0")], Some(Opcode)),
     Row(31, &[Each(0, 8)], Some(Opcode)),
     Row(46, &[Each(0, 16), Bytes(b"a\0b\0")], Some(Opcode)),
-    Row(5, &[Each(0, 69592)], Some(Opcode)),
-    Row(5, &[Each(0, 69593)], Some(Frame)),
+    Row(8, &[Each(0, 69592)], Some(Opcode)),
+    Row(8, &[Each(0, 69593)], Some(Frame)),
 ];
 
 /// A frame with that body, of request 0 for node 0.
@@ -225,7 +225,8 @@ fn frame_of(alloc: Global, opcode: u32, pieces: &[Piece]) -> Result<Vec<u8>, Fai
     Ok(frame)
 }
 
-fn are_told(alloc: Global, rows: &[Row]) -> Result<(), Fail> {
+/// Each frame is read, or has its fault, and without its last byte it is no frame.
+pub fn are_told(alloc: Global, rows: &[Row]) -> Result<(), Fail> {
     for row in rows {
         let Row(opcode, body, told) = *row;
         let mut frame = frame_of(alloc, opcode, body)?;
@@ -271,7 +272,7 @@ fn answers_to_faulty_frames(rt: HostRuntime) -> Result<(), Fail> {
     ] {
         assert_eq!(rt; fault.errno(), errno);
     }
-    for (opcode, answered) in [(2, false), (5, true), (12, true), (36, false), (42, false)] {
+    for (opcode, answered) in [(2, false), (6, true), (12, true), (36, false), (42, false)] {
         let frame = frame_of(rt.alloc(), opcode, &[])?;
         assert_eq!(rt;
             header_of(&frame),

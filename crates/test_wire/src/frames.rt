@@ -1,9 +1,10 @@
 //! Frames of requests, with the requests that they are.
 
 use crate::bytes::bytes_of;
+use payload::Time;
 use std::alloc::Global;
 use std::test::Fail;
-use wire::{NewAttributes, Operation, Request, Time, decode, encode_request};
+use wire::{NewAttributes, Operation, Request, decode, encode_request};
 
 /// A frame in digits, and the request that it is: its number, its node and its operation.
 #[derive(Clone, Copy)]

@@ -19,6 +19,10 @@ mod frames;
 #[cfg(test)]
 mod greeting;
 #[cfg(test)]
+mod kinds;
+#[cfg(test)]
+mod links;
+#[cfg(test)]
 mod replies;
 #[cfg(test)]
 mod requests;

@@ -3,13 +3,10 @@
 use crate::bytes::{SIXTEEN, bytes_of};
 use crate::greeting::{AGREED, OFFERED};
 use Says::{Attr, Created, Done, Failed, Given, Init, Opened, Sizes, Wrote};
-use payload::Payload;
+use payload::{Details, Kind, Payload, Time};
 use std::alloc::Global;
 use std::test::Fail;
-use wire::{
-    Attributes, Details, Entry, InitOut, Kind, Reply, ReplyBody, Time, encode_reply, error_frame,
-    write_reply,
-};
+use wire::{Attributes, Entry, InitOut, Reply, ReplyBody, encode_reply, error_frame, write_reply};
 
 /// The number of the request that is answered, what the reply says, and its bytes in digits.
 #[derive(Clone, Copy)]
@@ -49,8 +46,9 @@ const NEVER: Time = Time {
     nanos: 0,
 };
 
-/// The details of a file that everyone may read and root may write.
+/// The details of inode 2, a file that everyone may read and root may write.
 pub const OF_A_FILE: Details = Details {
+    ino: 2,
     permissions: 0o644,
     links: 1,
     uid: 0,
@@ -61,13 +59,13 @@ pub const OF_A_FILE: Details = Details {
 };
 
 const OF_A_FOLDER: Details = Details {
+    ino: 3,
     permissions: 0o755,
     links: 2,
     ..OF_A_FILE
 };
 
 const FILE: Attributes = Attributes {
-    ino: 2,
     kind: Kind::File,
     size: 3,
     details: OF_A_FILE,
@@ -77,7 +75,6 @@ const EMPTY_FILE: Attributes = Attributes { size: 0, ..FILE };
 
 /// 600 bytes take two blocks.
 const LONG_FILE: Attributes = Attributes {
-    ino: 2,
     kind: Kind::File,
     size: 600,
     details: Details {
@@ -88,19 +85,25 @@ const LONG_FILE: Attributes = Attributes {
 };
 
 const FOLDER: Attributes = Attributes {
-    ino: 3,
     kind: Kind::Folder,
     size: 0,
     details: OF_A_FOLDER,
 };
 
-const ROOT: Attributes = Attributes { ino: 1, ..FOLDER };
+const ROOT: Attributes = Attributes {
+    details: Details {
+        ino: 1,
+        ..OF_A_FOLDER
+    },
+    ..FOLDER
+};
 
 /// Eight bytes of zero.
 const EIGHT: &str = "0000000000000000";
 
 /// Three times and their nanoseconds.
-const TIMES: &str = "0000000000000000 0000000000000000 0000000000000000 00000000 00000000 00000000";
+pub const TIMES: &str =
+    "0000000000000000 0000000000000000 0000000000000000 00000000 00000000 00000000";
 
 const REPLIES: &[Row] = &[
     Row(7, Failed(2), &["10000000 feffffff 0700000000000000"]),

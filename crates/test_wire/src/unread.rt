@@ -1,10 +1,11 @@
 //! Frames of requests with bytes that are not read.
 
 use crate::frames::{ONES, Row};
+use payload::Time;
+use wire::NewAttributes;
 use wire::Operation::{
     BatchForget, GetAttr, Init, Interrupt, OpenDir, ReadDir, Rename2, SetAttr, SyncDir,
 };
-use wire::{NewAttributes, Time};
 
 /// Frames in which bytes that are not read are not zero: uid, gid, pid and padding; for GETATTR the flags and the
 /// handle; for SETATTR its padding, the lock owner, the time of the last change and unused fields; for INIT what

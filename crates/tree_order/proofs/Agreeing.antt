@@ -7,12 +7,12 @@ use Rattle.paths.specs.Prefixes.{Names, is_prefix}
 use Rattle.paths.proofs.PrefixLemmas.{is_prefix-append}
 use Rattle.backing.specs.declared.call.Answer.{Answer}
 use Rattle.backing.specs.declared.entries.Item.{Item}
-use Rattle.backing.specs.declared.entries.Item.TheVariants.{Folder, File}
+use Rattle.backing.specs.declared.entries.Item.TheVariants.{Folder, File, Link}
 use Rattle.backing.specs.Files.{resized, written}
 use Rattle.backing.specs.Device.{Device, Sound, Before, Within, After, DoesPart, Performs}
-use Rattle.backing.specs.Tree.{Tree, IsFile, IsFolder, Blocks, is_path, kind_of, with_item, without, moved, exchanged}
+use Rattle.backing.specs.Tree.{Tree, IsFile, IsFolder, IsLink, IsNeither, IsNoLink, IsOther, Blocks, is_path, kind_of, with_item, without, moved, exchanged}
 use Rattle.backing.proofs.PathLemmas.{is_path-same}
-use Rattle.backing.specs.Calls.{Asked, AskStat, AskList, AskMake, AskMakeDir, AskRemove, AskRemoveDir, AskRename, AskRenameNew, AskExchange, AskRead, AskWrite, AskSetLen, AskSync, AskSetPermissions, AskSetOwner, AskSetTimes, Test, BelowRoot, Reached, Present, Free, NoFolder, NoFile, Bare, Differs, NotInto, NotOver, NoFileOnFolder, NoFolderOnFile, Fits, Passes, Fails, PassesAll, Refuses, Does, Works, tests_of}
+use Rattle.backing.specs.Calls.{Asked, AskStat, AskList, AskMake, AskMakeDir, AskMakeLink, AskRemove, AskRemoveDir, AskRename, AskRenameNew, AskExchange, AskRead, AskReadLink, AskWrite, AskSetLen, AskSync, AskSetPermissions, AskSetOwner, AskSetTimes, Test, BelowRoot, Reached, Present, Free, FileAt, LinkAt, FolderAt, NoFolder, Bare, Differs, NotInto, NotOver, NoOtherOnFolder, NoFolderOnOther, Fits, Passes, Fails, PassesAll, Refuses, Does, Works, tests_of}
 use Rattle.tree_order.specs.Exchanging.{alters, needs, needs_any, works_on, minds}
 
 pub or-left : (x y : Bool) → x ≡ true → (x || y) ≡ true
@@ -39,16 +39,18 @@ passes t u (BelowRoot p) same h = h
 passes t u (Reached p) same h = record { down = λ k less. subst IsFolder (same (take k p) (prefix-take k p)) (h.down k less) }
 passes t u (Present p) same h = subst IsSome (same p (is_path-same p)) h
 passes t u (Free p) same h = sym (same p (is_path-same p)) ∙ h
-passes t u (NoFolder p) same h = λ folder. h (subst IsFolder (sym (same p (is_path-same p))) folder)
-passes t u (NoFile p) same h = λ file. h (subst IsFile (sym (same p (is_path-same p))) file)
+passes t u (FileAt p) same h = subst IsFile (same p (is_path-same p)) h
+passes t u (LinkAt p) same h = subst IsLink (same p (is_path-same p)) h
+passes t u (FolderAt p) same h = subst IsFolder (same p (is_path-same p)) h
+passes t u (NoFolder p) same h = subst IsOther (same p (is_path-same p)) h
 passes t u (Bare p) same h = record { none = λ name. sym (same (p ++ name ∷ []) (is_prefix-append p (name ∷ []))) ∙ h.none name }
 passes t u (Differs s r) same h = h
 passes t u (NotInto s r) same h = h
 passes t u (NotOver s r) same h = h
-passes t u (NoFileOnFolder s r) same h = λ file folder.
-    h (subst IsFile (sym (same s (or-left (is_path s s) (is_path r s) (is_path-same s)))) file) (subst IsFolder (sym (same r (or-right (is_path s r) (is_path r r) (is_path-same r)))) folder)
-passes t u (NoFolderOnFile s r) same h = λ folder file.
-    h (subst IsFolder (sym (same s (or-left (is_path s s) (is_path r s) (is_path-same s)))) folder) (subst IsFile (sym (same r (or-right (is_path s r) (is_path r r) (is_path-same r)))) file)
+passes t u (NoOtherOnFolder s r) same h = λ other folder.
+    h (subst IsOther (sym (same s (or-left (is_path s s) (is_path r s) (is_path-same s)))) other) (subst IsFolder (sym (same r (or-right (is_path s r) (is_path r r) (is_path-same r)))) folder)
+passes t u (NoFolderOnOther s r) same h = λ folder other.
+    h (subst IsFolder (sym (same s (or-left (is_path s s) (is_path r s) (is_path-same s)))) folder) (subst IsOther (sym (same r (or-right (is_path s r) (is_path r r) (is_path-same r)))) other)
 passes t u (Fits limit end) same h = h
 
 fails : (t u : Tree) (test : Test) (errno : ℤ) → AgreeAt (needs test) t u → Fails t test errno → Fails u test errno
@@ -61,16 +63,19 @@ fails t u (Reached p) errno same h = record {
 }
 fails t u (Present p) errno same h = (sym (same p (is_path-same p)) ∙ h.0, h.1)
 fails t u (Free p) errno same h = (subst IsSome (same p (is_path-same p)) h.0, h.1)
+fails t u (FileAt p) errno same (inl folder) = inl (subst IsFolder (same p (is_path-same p)) folder.0, folder.1)
+fails t u (FileAt p) errno same (inr neither) = inr (subst IsNeither (same p (is_path-same p)) neither.0, neither.1)
+fails t u (LinkAt p) errno same h = (subst IsNoLink (same p (is_path-same p)) h.0, h.1)
+fails t u (FolderAt p) errno same h = (subst IsOther (same p (is_path-same p)) h.0, h.1)
 fails t u (NoFolder p) errno same h = (subst IsFolder (same p (is_path-same p)) h.0, h.1)
-fails t u (NoFile p) errno same h = (subst IsFile (same p (is_path-same p)) h.0, h.1)
 fails t u (Bare p) errno same h = (record { name = h.0.name; stands = subst IsSome (same (p ++ h.0.name ∷ []) (is_prefix-append p (h.0.name ∷ []))) h.0.stands }, h.1)
 fails t u (Differs s r) errno same h = h
 fails t u (NotInto s r) errno same h = h
 fails t u (NotOver s r) errno same h = h
-fails t u (NoFileOnFolder s r) errno same h =
-    (subst IsFile (same s (or-left (is_path s s) (is_path r s) (is_path-same s))) h.0, subst IsFolder (same r (or-right (is_path s r) (is_path r r) (is_path-same r))) h.1, h.2)
-fails t u (NoFolderOnFile s r) errno same h =
-    (subst IsFolder (same s (or-left (is_path s s) (is_path r s) (is_path-same s))) h.0, subst IsFile (same r (or-right (is_path s r) (is_path r r) (is_path-same r))) h.1, h.2)
+fails t u (NoOtherOnFolder s r) errno same h =
+    (subst IsOther (same s (or-left (is_path s s) (is_path r s) (is_path-same s))) h.0, subst IsFolder (same r (or-right (is_path s r) (is_path r r) (is_path-same r))) h.1, h.2)
+fails t u (NoFolderOnOther s r) errno same h =
+    (subst IsFolder (same s (or-left (is_path s s) (is_path r s) (is_path-same s))) h.0, subst IsOther (same r (or-right (is_path s r) (is_path r r) (is_path-same r))) h.1, h.2)
 fails t u (Fits limit end) errno same h = h
 
 of_first : (t u : Tree) (test : Test) (tests : List Test) → AgreeAt (needs_any (test ∷ tests)) t u → AgreeAt (needs test) t u
@@ -114,6 +119,7 @@ outside t u (AskStat p) answer q far d = ap (λ (f : Tree). f q) d.1
 outside t u (AskList p) answer q far d = ap (λ (f : Tree). f q) d.1
 outside t u (AskMake p permissions) answer q far d = ap (λ (f : Tree). f q) d.1 ∙ cond-false (is_path p q) (Some (File [])) (t q) far
 outside t u (AskMakeDir p permissions) answer q far d = ap (λ (f : Tree). f q) d.1 ∙ cond-false (is_path p q) (Some Folder) (t q) far
+outside t u (AskMakeLink p text) answer q far d = ap (λ (f : Tree). f q) d.1 ∙ cond-false (is_path p q) (Some (Link text)) (t q) far
 outside t u (AskRemove p) answer q far d = ap (λ (f : Tree). f q) d.1 ∙ cond-false (is_path p q) None (t q) far
 outside t u (AskRemoveDir p) answer q far d = ap (λ (f : Tree). f q) d.1 ∙ cond-false (is_path p q) None (t q) far
 outside t u (AskRename s r) answer q far d = ap (λ (f : Tree). f q) d.1 ∙ (pick_at (is_path s r) t (moved t s r) t t q refl (moved_far t s r q far) ∙ pick_at (is_path s r) t t t t q refl refl ∙ same_at (is_path s r) t q)
@@ -128,6 +134,7 @@ outside t u (AskExchange s r) answer q far d = ap (λ (f : Tree). f q) d.1 ∙ (
     same_in true f q = refl
     same_in false f q = refl
 outside t u (AskRead p offset size) answer q far d = ap (λ (f : Tree). f q) d.1
+outside t u (AskReadLink p) answer q far d = ap (λ (f : Tree). f q) d.1
 outside t u (AskWrite p offset []) answer q far d = ap (λ (f : Tree). f q) d.1
 outside t u (AskWrite p offset (byte ∷ piece)) answer q far d = ap (λ (f : Tree). f q) d.1.2 ∙ cond-false (is_path p q) (Some (File (written d.1.0 offset (byte ∷ piece)))) (t q) far
 outside t u (AskSetLen p size) answer q far d = ap (λ (f : Tree). f q) d.1.2 ∙ cond-false (is_path p q) (Some (File (resized size d.1.0))) (t q) far
@@ -142,12 +149,14 @@ alters_works (AskStat p) q h = absurd (false≢true h)
 alters_works (AskList p) q h = absurd (false≢true h)
 alters_works (AskMake p permissions) q h = h
 alters_works (AskMakeDir p permissions) q h = h
+alters_works (AskMakeLink p text) q h = h
 alters_works (AskRemove p) q h = h
 alters_works (AskRemoveDir p) q h = h
 alters_works (AskRename s r) q h = h
 alters_works (AskRenameNew s r) q h = h
 alters_works (AskExchange s r) q h = h
 alters_works (AskRead p offset size) q h = absurd (false≢true h)
+alters_works (AskReadLink p) q h = absurd (false≢true h)
 alters_works (AskWrite p offset piece) q h = h
 alters_works (AskSetLen p size) q h = h
 alters_works (AskSync p) q h = absurd (false≢true h)
@@ -188,6 +197,7 @@ does t u t' (AskList p) answer same d =
     (u, ((d.0.0, record { stands = λ name. d.0.1.stands name ∙ ap (λ (o : Option Item). option_map kind_of o) (same (p ++ name ∷ []) (is_prefix-append p (name ∷ []))); once = d.0.1.once }, d.0.2), refl), nowhere t' u)
 does t u t' (AskMake p permissions) answer same d = (with_item u p (File []), (d.0, refl), put t u t' p (Some (File [])) same d.1)
 does t u t' (AskMakeDir p permissions) answer same d = (with_item u p Folder, (d.0, refl), put t u t' p (Some Folder) same d.1)
+does t u t' (AskMakeLink p text) answer same d = (with_item u p (Link text), (d.0, refl), put t u t' p (Some (Link text)) same d.1)
 does t u t' (AskRemove p) answer same d = (without u p, (d.0, refl), put t u t' p None same d.1)
 does t u t' (AskRemoveDir p) answer same d = (without u p, (d.0, refl), put t u t' p None same d.1)
 does t u t' (AskRename s r) answer same d =
@@ -196,6 +206,7 @@ does t u t' (AskRenameNew s r) answer same d = (moved u s r, (d.0, refl), λ q n
 does t u t' (AskExchange s r) answer same d =
     (cond (is_path s r) u (exchanged u s r), (d.0, refl), λ q near. ap (λ (f : Tree). f q) d.1 ∙ pick_at (is_path s r) t (exchanged t s r) u (exchanged u s r) q (same q near) (exchanged_near t u s r q same near))
 does t u t' (AskRead p offset size) answer same d = (u, ((d.0.0, sym (same p (is_path-same p)) ∙ d.0.1, d.0.2), refl), nowhere t' u)
+does t u t' (AskReadLink p) answer same d = (u, ((d.0.0, sym (same p (is_path-same p)) ∙ d.0.1, d.0.2), refl), nowhere t' u)
 does t u t' (AskWrite p offset []) answer same d = (u, (d.0, refl), unchanged t u t' p same d.1)
 does t u t' (AskWrite p offset (byte ∷ piece)) answer same d =
     let item = File (written d.1.0 offset (byte ∷ piece)) in
@@ -216,12 +227,14 @@ same_needs limit (AskStat p) q h = h
 same_needs limit (AskList p) q h = h
 same_needs limit (AskMake p permissions) q h = h
 same_needs limit (AskMakeDir p permissions) q h = h
+same_needs limit (AskMakeLink p text) q h = h
 same_needs limit (AskRemove p) q h = h
 same_needs limit (AskRemoveDir p) q h = h
 same_needs limit (AskRename s r) q h = h
 same_needs limit (AskRenameNew s r) q h = h
 same_needs limit (AskExchange s r) q h = h
 same_needs limit (AskRead p offset size) q h = h
+same_needs limit (AskReadLink p) q h = h
 same_needs limit (AskWrite p offset piece) q h = h
 same_needs limit (AskSetLen p size) q h = h
 same_needs limit (AskSync p) q h = h
@@ -260,12 +273,14 @@ part_outside t u (AskStat p) q far d = absurd d
 part_outside t u (AskList p) q far d = absurd d
 part_outside t u (AskMake p permissions) q far d = absurd d
 part_outside t u (AskMakeDir p permissions) q far d = absurd d
+part_outside t u (AskMakeLink p text) q far d = absurd d
 part_outside t u (AskRemove p) q far d = absurd d
 part_outside t u (AskRemoveDir p) q far d = absurd d
 part_outside t u (AskRename s r) q far d = absurd d
 part_outside t u (AskRenameNew s r) q far d = absurd d
 part_outside t u (AskExchange s r) q far d = absurd d
 part_outside t u (AskRead p offset size) q far d = absurd d
+part_outside t u (AskReadLink p) q far d = absurd d
 part_outside t u (AskSetLen p size) q far d = absurd d
 part_outside t u (AskSync p) q far d = absurd d
 part_outside t u (AskSetPermissions p permissions) q far d = absurd d
@@ -278,12 +293,14 @@ part t u t' (AskStat p) same d = absurd d
 part t u t' (AskList p) same d = absurd d
 part t u t' (AskMake p permissions) same d = absurd d
 part t u t' (AskMakeDir p permissions) same d = absurd d
+part t u t' (AskMakeLink p text) same d = absurd d
 part t u t' (AskRemove p) same d = absurd d
 part t u t' (AskRemoveDir p) same d = absurd d
 part t u t' (AskRename s r) same d = absurd d
 part t u t' (AskRenameNew s r) same d = absurd d
 part t u t' (AskExchange s r) same d = absurd d
 part t u t' (AskRead p offset size) same d = absurd d
+part t u t' (AskReadLink p) same d = absurd d
 part t u t' (AskSetLen p size) same d = absurd d
 part t u t' (AskSync p) same d = absurd d
 part t u t' (AskSetPermissions p permissions) same d = absurd d

@@ -7,7 +7,7 @@ use Rattle.holds.specs.declared.held.Held.{Held}
 use Rattle.holds.specs.Conflicts.{Conflict}
 use Rattle.backing.specs.Tree.{is_path}
 use Rattle.backing.proofs.PathLemmas.{is_path-true}
-use Rattle.backing.specs.Calls.{Asked, AskStat, AskList, AskMake, AskMakeDir, AskRemove, AskRemoveDir, AskRename, AskRenameNew, AskExchange, AskRead, AskWrite, AskSetLen, AskSync, AskSetPermissions, AskSetOwner, AskSetTimes, Test, BelowRoot, Reached, Present, Free, NoFolder, NoFile, Bare, Differs, NotInto, NotOver, NoFileOnFolder, NoFolderOnFile, Fits, tests_of, unless}
+use Rattle.backing.specs.Calls.{Asked, AskStat, AskList, AskMake, AskMakeDir, AskMakeLink, AskRemove, AskRemoveDir, AskRename, AskRenameNew, AskExchange, AskRead, AskReadLink, AskWrite, AskSetLen, AskSync, AskSetPermissions, AskSetOwner, AskSetTimes, Test, BelowRoot, Reached, Present, Free, FileAt, LinkAt, FolderAt, NoFolder, Bare, Differs, NotInto, NotOver, NoOtherOnFolder, NoFolderOnOther, Fits, tests_of, unless}
 use Rattle.tree_order.specs.Exchanging.{alters, needs, needs_any, works_on, minds, AreFree}
 use Rattle.tree_order.specs.Owning.{Each, Some, Keeps, Owns, IsAtPath, IsLook, StandsApart, paths_of}
 use Rattle.tree_order.proofs.Agreeing.{or-cases}
@@ -52,12 +52,14 @@ alters_below (AskStat p) q h = absurd (false≢true h)
 alters_below (AskList p) q h = absurd (false≢true h)
 alters_below (AskMake p permissions) q h = inl (path_begins p q h)
 alters_below (AskMakeDir p permissions) q h = inl (path_begins p q h)
+alters_below (AskMakeLink p text) q h = inl (path_begins p q h)
 alters_below (AskRemove p) q h = inl (path_begins p q h)
 alters_below (AskRemoveDir p) q h = inl (path_begins p q h)
 alters_below (AskRename s t) q h = two_lead s t q h
 alters_below (AskRenameNew s t) q h = two_lead s t q h
 alters_below (AskExchange s t) q h = two_lead s t q h
 alters_below (AskRead p offset size) q h = absurd (false≢true h)
+alters_below (AskReadLink p) q h = absurd (false≢true h)
 alters_below (AskWrite p offset piece) q h = inl (path_begins p q h)
 alters_below (AskSetLen p size) q h = inl (path_begins p q h)
 alters_below (AskSync p) q h = absurd (false≢true h)
@@ -84,14 +86,16 @@ IsAbout ps (BelowRoot p) = Unit {0}
 IsAbout ps (Reached p) = In ps p
 IsAbout ps (Present p) = In ps p
 IsAbout ps (Free p) = In ps p
+IsAbout ps (FileAt p) = In ps p
+IsAbout ps (LinkAt p) = In ps p
+IsAbout ps (FolderAt p) = In ps p
 IsAbout ps (NoFolder p) = In ps p
-IsAbout ps (NoFile p) = In ps p
 IsAbout ps (Bare p) = In ps p
 IsAbout ps (Differs s t) = Unit {0}
 IsAbout ps (NotInto s t) = Unit {0}
 IsAbout ps (NotOver s t) = Unit {0}
-IsAbout ps (NoFileOnFolder s t) = In ps s × In ps t
-IsAbout ps (NoFolderOnFile s t) = In ps s × In ps t
+IsAbout ps (NoOtherOnFolder s t) = In ps s × In ps t
+IsAbout ps (NoFolderOnOther s t) = In ps s × In ps t
 IsAbout ps (Fits limit end) = Unit {0}
 
 near_two : (ps : List Names) (s t q : Names) → In ps s → In ps t → (is_path s q || is_path t q) ≡ true → Some (Near q) ps
@@ -105,14 +109,16 @@ near_test ps (BelowRoot p) q about h = absurd (false≢true h)
 near_test ps (Reached p) q about h = near_in ps p q about (inl h)
 near_test ps (Present p) q about h = near_in ps p q about (inl (path_ends p q h))
 near_test ps (Free p) q about h = near_in ps p q about (inl (path_ends p q h))
+near_test ps (FileAt p) q about h = near_in ps p q about (inl (path_ends p q h))
+near_test ps (LinkAt p) q about h = near_in ps p q about (inl (path_ends p q h))
+near_test ps (FolderAt p) q about h = near_in ps p q about (inl (path_ends p q h))
 near_test ps (NoFolder p) q about h = near_in ps p q about (inl (path_ends p q h))
-near_test ps (NoFile p) q about h = near_in ps p q about (inl (path_ends p q h))
 near_test ps (Bare p) q about h = near_in ps p q about (inr h)
 near_test ps (Differs s t) q about h = absurd (false≢true h)
 near_test ps (NotInto s t) q about h = absurd (false≢true h)
 near_test ps (NotOver s t) q about h = absurd (false≢true h)
-near_test ps (NoFileOnFolder s t) q about h = near_two ps s t q about.0 about.1 h
-near_test ps (NoFolderOnFile s t) q about h = near_two ps s t q about.0 about.1 h
+near_test ps (NoOtherOnFolder s t) q about h = near_two ps s t q about.0 about.1 h
+near_test ps (NoFolderOnOther s t) q about h = near_two ps s t q about.0 about.1 h
 near_test ps (Fits limit end) q about h = absurd (false≢true h)
 
 near_tests : (ps : List Names) (tests : List Test) (q : Names) → Each (IsAbout ps) tests → needs_any tests q ≡ true → Some (Near q) ps
@@ -131,14 +137,16 @@ tests_about (AskStat p) = (inl refl, (inl refl, tt))
 tests_about (AskList p) = (inl refl, (inl refl, (inl refl, tt)))
 tests_about (AskMake p permissions) = (inl refl, (inl refl, tt))
 tests_about (AskMakeDir p permissions) = (inl refl, (inl refl, tt))
+tests_about (AskMakeLink p text) = (inl refl, (inl refl, tt))
 tests_about (AskRemove p) = (inl refl, (inl refl, (inl refl, tt)))
 tests_about (AskRemoveDir p) = (tt, (inl refl, (inl refl, (inl refl, (inl refl, tt)))))
 tests_about (AskRename s t) =
-    (tt, (tt, (inl refl, (inl refl, or_none (s ∷ t ∷ []) (is_path s t) (NotInto s t ∷ NotOver s t ∷ Reached t ∷ NoFileOnFolder s t ∷ NoFolderOnFile s t ∷ Bare t ∷ []) (tt, (tt, (inr (inl refl), ((inl refl, inr (inl refl)), ((inl refl, inr (inl refl)), (inr (inl refl), tt))))))))))
+    (tt, (tt, (inl refl, (inl refl, or_none (s ∷ t ∷ []) (is_path s t) (NotInto s t ∷ NotOver s t ∷ Reached t ∷ NoOtherOnFolder s t ∷ NoFolderOnOther s t ∷ Bare t ∷ []) (tt, (tt, (inr (inl refl), ((inl refl, inr (inl refl)), ((inl refl, inr (inl refl)), (inr (inl refl), tt))))))))))
 tests_about (AskRenameNew s t) = (tt, (tt, (inl refl, (inl refl, (tt, (tt, (tt, (inr (inl refl), (inr (inl refl), tt)))))))))
 tests_about (AskExchange s t) =
     (tt, (tt, (inl refl, (inl refl, or_none (s ∷ t ∷ []) (is_path s t) (NotInto s t ∷ NotInto t s ∷ Reached t ∷ Present t ∷ []) (tt, (tt, (inr (inl refl), (inr (inl refl), tt))))))))
 tests_about (AskRead p offset size) = (inl refl, (inl refl, (inl refl, tt)))
+tests_about (AskReadLink p) = (inl refl, (inl refl, (inl refl, tt)))
 tests_about (AskWrite p offset piece) = (inl refl, (inl refl, (inl refl, (tt, tt))))
 tests_about (AskSetLen p size) = (inl refl, (inl refl, (inl refl, (tt, tt))))
 tests_about (AskSync p) = (inl refl, (inl refl, tt))
@@ -157,12 +165,14 @@ work_near (AskStat p) q h = inl (inl (path_ends p q h))
 work_near (AskList p) q h = inl (inr h)
 work_near (AskMake p permissions) q h = inl (inl (path_ends p q h))
 work_near (AskMakeDir p permissions) q h = inl (inl (path_ends p q h))
+work_near (AskMakeLink p text) q h = inl (inl (path_ends p q h))
 work_near (AskRemove p) q h = inl (inl (path_ends p q h))
 work_near (AskRemoveDir p) q h = inl (inl (path_ends p q h))
 work_near (AskRename s t) q h = two_near s t q h
 work_near (AskRenameNew s t) q h = two_near s t q h
 work_near (AskExchange s t) q h = two_near s t q h
 work_near (AskRead p offset size) q h = inl (inl (path_ends p q h))
+work_near (AskReadLink p) q h = inl (inl (path_ends p q h))
 work_near (AskWrite p offset piece) q h = inl (inl (path_ends p q h))
 work_near (AskSetLen p size) q h = inl (inl (path_ends p q h))
 work_near (AskSync p) q h = inl (inl (path_ends p q h))
@@ -182,6 +192,8 @@ abbrev IsOnWay : Names → Test → Type 0
 IsOnWay p (Reached r) = r ≡ p
 IsOnWay p (Present r) = r ≡ p
 IsOnWay p (Free r) = r ≡ p
+IsOnWay p (FileAt r) = r ≡ p
+IsOnWay p (LinkAt r) = r ≡ p
 IsOnWay p (NoFolder r) = r ≡ p
 IsOnWay p (Fits limit end) = Unit {0}
 IsOnWay p test = ⊥
@@ -190,16 +202,18 @@ way_test : (p : Names) (test : Test) (q : Names) → IsOnWay p test → needs te
 way_test p (Reached r) q way h = subst (λ (x : Names). is_prefix q x ≡ true) way h
 way_test p (Present r) q way h = subst (λ (x : Names). is_prefix q x ≡ true) way (path_ends r q h)
 way_test p (Free r) q way h = subst (λ (x : Names). is_prefix q x ≡ true) way (path_ends r q h)
+way_test p (FileAt r) q way h = subst (λ (x : Names). is_prefix q x ≡ true) way (path_ends r q h)
+way_test p (LinkAt r) q way h = subst (λ (x : Names). is_prefix q x ≡ true) way (path_ends r q h)
 way_test p (NoFolder r) q way h = subst (λ (x : Names). is_prefix q x ≡ true) way (path_ends r q h)
 way_test p (Fits limit end) q way h = absurd (false≢true h)
 way_test p (BelowRoot r) q way h = absurd way
-way_test p (NoFile r) q way h = absurd way
+way_test p (FolderAt r) q way h = absurd way
 way_test p (Bare r) q way h = absurd way
 way_test p (Differs s t) q way h = absurd way
 way_test p (NotInto s t) q way h = absurd way
 way_test p (NotOver s t) q way h = absurd way
-way_test p (NoFileOnFolder s t) q way h = absurd way
-way_test p (NoFolderOnFile s t) q way h = absurd way
+way_test p (NoOtherOnFolder s t) q way h = absurd way
+way_test p (NoFolderOnOther s t) q way h = absurd way
 
 above : (p : Names) (tests : List Test) (q : Names) → Each (IsOnWay p) tests → needs_any tests q ≡ true → is_prefix q p ≡ true
 above p [] q ways h = absurd (false≢true h)
@@ -222,12 +236,14 @@ minds_above (AskStat p) q at h = inl (above_all p (tests_of None (AskStat p)) q 
 minds_above (AskList p) q at h = absurd at
 minds_above (AskMake p permissions) q at h = inl (above_all p (tests_of None (AskMake p permissions)) q (refl, (refl, tt)) h)
 minds_above (AskMakeDir p permissions) q at h = inl (above_all p (tests_of None (AskMakeDir p permissions)) q (refl, (refl, tt)) h)
+minds_above (AskMakeLink p text) q at h = inl (above_all p (tests_of None (AskMakeLink p text)) q (refl, (refl, tt)) h)
 minds_above (AskRemove p) q at h = inl (above_all p (tests_of None (AskRemove p)) q (refl, (refl, (refl, tt))) h)
 minds_above (AskRemoveDir p) q at h = absurd at
 minds_above (AskRename s t) q at h = absurd at
 minds_above (AskRenameNew s t) q at h = absurd at
 minds_above (AskExchange s t) q at h = absurd at
 minds_above (AskRead p offset size) q at h = inl (above_all p (tests_of None (AskRead p offset size)) q (refl, (refl, (refl, tt))) h)
+minds_above (AskReadLink p) q at h = inl (above_all p (tests_of None (AskReadLink p)) q (refl, (refl, (refl, tt))) h)
 minds_above (AskWrite p offset piece) q at h = inl (above_all p (tests_of None (AskWrite p offset piece)) q (refl, (refl, (refl, (tt, tt)))) h)
 minds_above (AskSetLen p size) q at h = inl (above_all p (tests_of None (AskSetLen p size)) q (refl, (refl, (refl, (tt, tt)))) h)
 minds_above (AskSync p) q at h = inl (above_all p (tests_of None (AskSync p)) q (refl, (refl, tt)) h)
@@ -240,12 +256,14 @@ look_at (AskStat p) look = tt
 look_at (AskList p) look = look
 look_at (AskMake p permissions) look = tt
 look_at (AskMakeDir p permissions) look = tt
+look_at (AskMakeLink p text) look = tt
 look_at (AskRemove p) look = tt
 look_at (AskRemoveDir p) look = look
 look_at (AskRename s t) look = look
 look_at (AskRenameNew s t) look = look
 look_at (AskExchange s t) look = look
 look_at (AskRead p offset size) look = tt
+look_at (AskReadLink p) look = tt
 look_at (AskWrite p offset piece) look = tt
 look_at (AskSetLen p size) look = tt
 look_at (AskSync p) look = tt
@@ -258,12 +276,14 @@ look_alters (AskStat p) q look = refl
 look_alters (AskList p) q look = refl
 look_alters (AskMake p permissions) q look = absurd look
 look_alters (AskMakeDir p permissions) q look = absurd look
+look_alters (AskMakeLink p text) q look = absurd look
 look_alters (AskRemove p) q look = absurd look
 look_alters (AskRemoveDir p) q look = absurd look
 look_alters (AskRename s t) q look = absurd look
 look_alters (AskRenameNew s t) q look = absurd look
 look_alters (AskExchange s t) q look = absurd look
 look_alters (AskRead p offset size) q look = refl
+look_alters (AskReadLink p) q look = refl
 look_alters (AskWrite p offset piece) q look = absurd look
 look_alters (AskSetLen p size) q look = absurd look
 look_alters (AskSync p) q look = refl

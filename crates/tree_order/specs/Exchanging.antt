@@ -2,7 +2,7 @@
 use Rattle.std.specs.Prelude.{◌≡◌, ◌||◌, Bool, true, false, List, [], ◌∷◌, None}
 use Rattle.paths.specs.Prefixes.{Names, is_prefix}
 use Rattle.backing.specs.Tree.{is_path}
-use Rattle.backing.specs.Calls.{Asked, AskStat, AskList, AskMake, AskMakeDir, AskRemove, AskRemoveDir, AskRename, AskRenameNew, AskExchange, AskRead, AskWrite, AskSetLen, AskSync, AskSetPermissions, AskSetOwner, AskSetTimes, Test, BelowRoot, Reached, Present, Free, NoFolder, NoFile, Bare, Differs, NotInto, NotOver, NoFileOnFolder, NoFolderOnFile, Fits, tests_of}
+use Rattle.backing.specs.Calls.{Asked, AskStat, AskList, AskMake, AskMakeDir, AskMakeLink, AskRemove, AskRemoveDir, AskRename, AskRenameNew, AskExchange, AskRead, AskReadLink, AskWrite, AskSetLen, AskSync, AskSetPermissions, AskSetOwner, AskSetTimes, Test, BelowRoot, Reached, Present, Free, FileAt, LinkAt, FolderAt, NoFolder, Bare, Differs, NotInto, NotOver, NoOtherOnFolder, NoFolderOnOther, Fits, tests_of}
 
 -- the paths at which a call may change what stands
 abbrev pub alters : Asked → Names → Bool
@@ -10,12 +10,14 @@ alters (AskStat p) q = false
 alters (AskList p) q = false
 alters (AskMake p permissions) q = is_path p q
 alters (AskMakeDir p permissions) q = is_path p q
+alters (AskMakeLink p text) q = is_path p q
 alters (AskRemove p) q = is_path p q
 alters (AskRemoveDir p) q = is_path p q
 alters (AskRename s t) q = is_prefix s q || is_prefix t q
 alters (AskRenameNew s t) q = is_prefix s q || is_prefix t q
 alters (AskExchange s t) q = is_prefix s q || is_prefix t q
 alters (AskRead p offset size) q = false
+alters (AskReadLink p) q = false
 alters (AskWrite p offset piece) q = is_path p q
 alters (AskSetLen p size) q = is_path p q
 alters (AskSync p) q = false
@@ -29,14 +31,16 @@ needs (BelowRoot p) q = false
 needs (Reached p) q = is_prefix q p
 needs (Present p) q = is_path p q
 needs (Free p) q = is_path p q
+needs (FileAt p) q = is_path p q
+needs (LinkAt p) q = is_path p q
+needs (FolderAt p) q = is_path p q
 needs (NoFolder p) q = is_path p q
-needs (NoFile p) q = is_path p q
 needs (Bare p) q = is_prefix p q
 needs (Differs s t) q = false
 needs (NotInto s t) q = false
 needs (NotOver s t) q = false
-needs (NoFileOnFolder s t) q = is_path s q || is_path t q
-needs (NoFolderOnFile s t) q = is_path s q || is_path t q
+needs (NoOtherOnFolder s t) q = is_path s q || is_path t q
+needs (NoFolderOnOther s t) q = is_path s q || is_path t q
 needs (Fits limit end) q = false
 
 abbrev pub needs_any : List Test → Names → Bool
@@ -49,12 +53,14 @@ works_on (AskStat p) q = is_path p q
 works_on (AskList p) q = is_prefix p q
 works_on (AskMake p permissions) q = is_path p q
 works_on (AskMakeDir p permissions) q = is_path p q
+works_on (AskMakeLink p text) q = is_path p q
 works_on (AskRemove p) q = is_path p q
 works_on (AskRemoveDir p) q = is_path p q
 works_on (AskRename s t) q = is_prefix s q || is_prefix t q
 works_on (AskRenameNew s t) q = is_prefix s q || is_prefix t q
 works_on (AskExchange s t) q = is_prefix s q || is_prefix t q
 works_on (AskRead p offset size) q = is_path p q
+works_on (AskReadLink p) q = is_path p q
 works_on (AskWrite p offset piece) q = is_path p q
 works_on (AskSetLen p size) q = is_path p q
 works_on (AskSync p) q = is_path p q

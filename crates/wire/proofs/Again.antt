@@ -5,7 +5,7 @@ use Rattle.std.proofs.Math.Nat.{div-zero, mul-div_cancel_left}
 use Rattle.byteorder.specs.Endian.{little_number, little_bytes}
 use Rattle.byteorder.specs.Numbers.{little_number-reads_back, little_from-lt, length-bytes_low_first}
 use Rattle.wire.specs.declared.request.Request.{Request}
-use Rattle.wire.specs.Fields.{Field, number, unread, raw, text, counted, limited, anything, Value, num, name, bytes, Spells, CanTell, IsBytes}
+use Rattle.wire.specs.Fields.{Field, number, unread, raw, text, link_text, counted, limited, anything, Value, num, name, bytes, Spells, CanTell, IsBytes}
 use Rattle.wire.specs.Requests.{layout, opcode_of, values_of, opcode_in, body_in, IsLaidOut, IsRequest}
 use Rattle.wire.proofs.Lengths.{length-zeros}
 use Rattle.wire.specs.Written.{le, zeros, written, written_by, operation_bytes, request_bytes}
@@ -28,6 +28,8 @@ written_len (unread len ∷ fields) values body s =
 written_len (raw len ∷ fields) (bytes d ∷ values) body s =
     omega (arith, length-append d (written fields values), ap length s.1, length-take len body, length-drop len body, written_len fields values (drop len body) s.2, s.0)
 written_len (text ∷ fields) (name t ∷ values) body s =
+    omega (arith, length-append t (0 ∷ written fields values), ap length s.2, length-append t (0 ∷ s.1), written_len fields values s.1 s.3)
+written_len (link_text ∷ fields) (bytes t ∷ values) body s =
     omega (arith, length-append t (0 ∷ written fields values), ap length s.2, length-append t (0 ∷ s.1), written_len fields values s.1 s.3)
 written_len (counted unit gap limit ∷ []) (bytes d ∷ []) body s =
     omega (arith, length-append (little_bytes 4 (length d / unit) ++ zeros gap) d, length-append (little_bytes 4 (length d / unit)) (zeros gap), length-zeros gap, ap length s.2, length-drop (4 + gap) body, s.0)
@@ -52,6 +54,7 @@ told_again (unread len ∷ fields) values body fits s = told_again fields values
 told_again (raw len ∷ fields) (bytes d ∷ values) body fits s =
     (omega (arith, ap length s.1, length-take len body, s.0), told_again fields values (drop len body) (IsBytes-drop len body fits) s.2)
 told_again (text ∷ fields) (name t ∷ values) body fits s = (s.0, told_again fields values s.1 (IsBytes-rest t s.1 body s.2 fits) s.3)
+told_again (link_text ∷ fields) (bytes t ∷ values) body fits s = (s.0, told_again fields values s.1 (IsBytes-rest t s.1 body s.2 fits) s.3)
 told_again (counted unit gap limit ∷ []) (bytes d ∷ []) body fits s = (little_number 4 body, little_from-lt 0 4 body fits, s.1, s.3)
 told_again (limited limit ∷ fields) (num n ∷ values) body fits s =
     (rw s.1 (little_from-lt 0 4 body fits), s.2, told_again fields values (drop 4 body) (IsBytes-drop 4 body fits) s.3)
@@ -75,6 +78,7 @@ written_spelled (raw len ∷ fields) (bytes d ∷ values) h =
     let rest : drop len (d ++ w) ≡ w = drop_at d w len h.0 in
     (omega (arith, length-append d w, h.0), sym (take_at d w len h.0), subst (Spells fields values) (sym rest) (written_spelled fields values h.1))
 written_spelled (text ∷ fields) (name t ∷ values) h = (h.0, written fields values, refl, written_spelled fields values h.1)
+written_spelled (link_text ∷ fields) (bytes t ∷ values) h = (h.0, written fields values, refl, written_spelled fields values h.1)
 written_spelled (counted unit gap limit ∷ []) (bytes d ∷ []) h =
     let n = length d / unit in
     let k = count_again unit h.0 (length d) limit h.3 h.1 h.2 in

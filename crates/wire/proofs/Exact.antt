@@ -5,7 +5,7 @@ use Rattle.std.proofs.Math.Nat.{div-div-eq-div-mul, pow-succ'}
 use Rattle.std.specs.Int.{byte_at, bytes_low_first}
 use Rattle.byteorder.specs.Endian.{little_from, little_number, little_bytes}
 use Rattle.byteorder.specs.Numbers.{little_from-cons}
-use Rattle.wire.specs.Fields.{Field, number, unread, raw, text, counted, limited, anything, Value, num, name, bytes, Spells, IsBytes}
+use Rattle.wire.specs.Fields.{Field, number, unread, raw, text, link_text, counted, limited, anything, Value, num, name, bytes, Spells, IsBytes}
 use Rattle.wire.specs.Written.{le, written}
 use Rattle.wire.proofs.Again.{IsBytes-drop, IsBytes-rest}
 
@@ -38,6 +38,7 @@ AreRead [] = Unit {0}
 AreRead (number _ ∷ fields) = AreRead fields
 AreRead (raw _ ∷ fields) = AreRead fields
 AreRead (text ∷ fields) = AreRead fields
+AreRead (link_text ∷ fields) = AreRead fields
 AreRead (limited _ ∷ fields) = AreRead fields
 AreRead (unread _ ∷ _) = ⊥
 AreRead (counted _ _ _ ∷ _) = ⊥
@@ -53,6 +54,8 @@ exactly (raw len ∷ fields) (bytes d ∷ values) body all fits s =
     let rest = exactly fields values (drop len body) all (IsBytes-drop len body fits) s.2 in
     sym (take-append-drop len body) ∙ ap (λ (t : List ℕ). t ++ drop len body) (sym s.1) ∙ ap (λ (r : List ℕ). d ++ r) rest
 exactly (text ∷ fields) (name t ∷ values) body all fits s =
+    s.2 ∙ ap (λ (r : List ℕ). t ++ 0 ∷ r) (exactly fields values s.1 all (IsBytes-rest t s.1 body s.2 fits) s.3)
+exactly (link_text ∷ fields) (bytes t ∷ values) body all fits s =
     s.2 ∙ ap (λ (r : List ℕ). t ++ 0 ∷ r) (exactly fields values s.1 all (IsBytes-rest t s.1 body s.2 fits) s.3)
 exactly (limited limit ∷ fields) (num n ∷ values) body all fits s =
     let rest = exactly fields values (drop 4 body) all (IsBytes-drop 4 body fits) s.3 in

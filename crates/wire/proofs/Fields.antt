@@ -8,7 +8,7 @@ use Rattle.std.proofs.lemmas.List.Sums.{position_or_len_is, prefix_len_passes, p
 use Rattle.byteorder.specs.Endian.{little_number}
 use Rattle.wire.specs.declared.fault.WireFault.{WireFault}
 use Rattle.wire.specs.declared.fault.WireFault.TheVariants.{Body}
-use Rattle.wire.specs.Fields.{Field, number, unread, raw, text, counted, limited, anything, Value, num, name, bytes, Spells}
+use Rattle.wire.specs.Fields.{Field, number, unread, raw, text, link_text, counted, limited, anything, Value, num, name, bytes, Spells}
 use Rattle.wire.specs.Reading.{◌>>=◌, number_at, unread_at, raw_at, text_at, text_before, counted_at, limited_at, ended, values_at}
 
 -- the value of a step that did not fail
@@ -146,6 +146,12 @@ values_spelled (text ∷ fields) values body e =
     let t = text_takes body a.0 a.1 in
     let one : Spells (text ∷ fields) (name a.0.0 ∷ b.0) body = (t.no_zero, a.0.1, t.parts, values_spelled fields b.0 a.0.1 b.1) in
     subst (λ (vs : List Value). Spells (text ∷ fields) vs body) (ok_is (name a.0.0 ∷ b.0) values b.2) one
+values_spelled (link_text ∷ fields) values body e =
+    let a = bind_ok (text_at body) (λ x. values_at fields x.1 >>= first_then (bytes x.0)) values e in
+    let b = bind_ok (values_at fields a.0.1) (first_then (bytes a.0.0)) values a.2 in
+    let t = text_takes body a.0 a.1 in
+    let one : Spells (link_text ∷ fields) (bytes a.0.0 ∷ b.0) body = (t.no_zero, a.0.1, t.parts, values_spelled fields b.0 a.0.1 b.1) in
+    subst (λ (vs : List Value). Spells (link_text ∷ fields) vs body) (ok_is (bytes a.0.0 ∷ b.0) values b.2) one
 values_spelled (counted unit gap limit ∷ []) values body e =
     let a = bind_ok (counted_at unit gap limit body) (λ d. done (bytes d ∷ [])) values e in
     subst (λ (vs : List Value). Spells (counted unit gap limit ∷ []) vs body) (ok_is (bytes a.0 ∷ []) values a.2) (counted_takes unit gap limit body a.0 a.1)
@@ -174,6 +180,8 @@ spelled_values (unread len ∷ fields) values body s =
 spelled_values (raw len ∷ fields) (bytes d ∷ values) body s =
     rw (le-ltb _ _ s.0, spelled_values fields values (drop len body) s.2) (ap (λ (t : List ℕ). done (bytes t ∷ values)) (sym s.1))
 spelled_values (text ∷ fields) (name t ∷ values) body s =
+    rw (text_again body t s.1 (record { parts = s.2; no_zero = s.0 }), spelled_values fields values s.1 s.3) refl
+spelled_values (link_text ∷ fields) (bytes t ∷ values) body s =
     rw (text_again body t s.1 (record { parts = s.2; no_zero = s.0 }), spelled_values fields values s.1 s.3) refl
 spelled_values (counted unit gap limit ∷ []) (bytes d ∷ []) body s =
     ap (λ r. r >>= λ (x : List ℕ). done (bytes x ∷ [])) (counted_again unit gap limit body d s)
@@ -221,6 +229,9 @@ only_body (raw len ∷ fields) body =
 only_body (text ∷ fields) body =
     only_then (text_at body) (λ x. values_at fields x.1 >>= first_then (name x.0)) (only_text (position is_zero body) body)
     (λ x. only_then (values_at fields x.1) (first_then (name x.0)) (only_body fields x.1) (λ _. tt))
+only_body (link_text ∷ fields) body =
+    only_then (text_at body) (λ x. values_at fields x.1 >>= first_then (bytes x.0)) (only_text (position is_zero body) body)
+    (λ x. only_then (values_at fields x.1) (first_then (bytes x.0)) (only_body fields x.1) (λ _. tt))
 only_body (counted unit gap limit ∷ []) body =
     only_then (counted_at unit gap limit body) (λ d. done (bytes d ∷ []))
     (only_nested (ltb (length body) (4 + gap)) (leb (little_number 4 body) limit && eqb (length (drop (4 + gap) body)) (unit * little_number 4 body)) (drop (4 + gap) body)) (λ _. tt)

@@ -1,8 +1,9 @@
 -- Directory entries as numbers, a name and zeros.
 use Rattle.std.proofs.Common.{◌≡◌, ℕ, ◌+◌, ◌^◌, ◌<◌, List, ◌++◌, length, map, replicate, refl, ap, lit<, arith, Option, Some, None}
 use Rattle.wire.specs.declared.reply.Entry.{Entry}
-use Rattle.wire.specs.declared.reply.Kind.TheVariants.{File, Folder}
-use Rattle.wire.specs.declared.reply.Kind.{Kind}
+use Rattle.payload.specs.declared.attributes.Kind.TheVariants.{Folder, File, Link, Special}
+use Rattle.payload.specs.declared.attributes.Special.TheVariants.{Pipe, Socket, Character, Block}
+use Rattle.payload.specs.declared.attributes.Kind.{Kind}
 use Rattle.wire.specs.Dirents.{Dirent, PlusDirent, IsDirent, IsPlusDirent, dirent_bytes, dirent_in, dirent_layout, dirent_values, given_values, ino_of, padding_of, plus_bytes, plus_layout, plus_values, type_of}
 use Rattle.wire.specs.Fields.{Value, num, CanTell}
 use Rattle.wire.specs.Replies.{entry_layout}
@@ -25,6 +26,11 @@ none_words = refl
 type_fits : (kind : Kind) → type_of kind < 256 ^ 4
 type_fits Folder = lit< tt
 type_fits File = lit< tt
+type_fits Link = lit< tt
+type_fits (Special Pipe) = lit< tt
+type_fits (Special Socket) = lit< tt
+type_fits (Special (Character _)) = lit< tt
+type_fits (Special (Block _)) = lit< tt
 
 dirent_tells : (d : Dirent) → d.ino < 256 ^ 8 → d.next < 256 ^ 8 → length d.name < 256 ^ 4 → CanTell (dirent_layout d) (dirent_values d)
 dirent_tells d ino next name = (ino, (next, (name, (type_fits d.kind, (refl, (length-zeros (padding_of d.name), tt))))))

@@ -2,8 +2,9 @@
 use Rattle.std.specs.Prelude.{ℕ, ◌+◌, ◌-◌, ◌%◌, List, [], ◌∷◌, ◌++◌, length, map, Option, Some, None}
 use Rattle.wire.specs.declared.dirents.TheConstants.{DIRENT_LEN, NO_INO}
 use Rattle.wire.specs.declared.reply.Entry.{Entry}
-use Rattle.wire.specs.declared.reply.Kind.{Kind}
-use Rattle.wire.specs.declared.reply.Kind.TheVariants.{File, Folder}
+use Rattle.payload.specs.declared.attributes.Kind.{Kind}
+use Rattle.payload.specs.declared.attributes.Kind.TheVariants.{Folder, File, Link, Special}
+use Rattle.payload.specs.declared.attributes.Special.TheVariants.{Pipe, Socket, Character, Block}
 use Rattle.wire.specs.Fields.{Field, raw, u32, u64, Value, num, bytes, Spells}
 use Rattle.wire.specs.Replies.{entry_layout, entry_values}
 use Rattle.wire.specs.Written.{zeros, written}
@@ -17,10 +18,15 @@ pub record Dirent : Type 0 where
   pub kind : Kind
   pub name : List ℕ
 
--- the type: directory or regular file
+-- the type, as in a mode, divided by 2 ^ 12
 abbrev pub type_of : Kind → ℕ
 type_of Folder = 4
 type_of File = 8
+type_of Link = 10
+type_of (Special Pipe) = 1
+type_of (Special Socket) = 12
+type_of (Special (Character _)) = 2
+type_of (Special (Block _)) = 6
 
 -- how many zeros fill up that many bytes to a multiple of 8
 abbrev pub padding : ℕ → ℕ
@@ -53,7 +59,7 @@ pub record PlusDirent : Type 0 where
   pub name : List ℕ
 
 abbrev pub ino_of : Option Entry → ℕ
-ino_of (Some e) = e.attributes.ino
+ino_of (Some e) = e.attributes.details.ino
 ino_of None = NO_INO
 
 abbrev pub dirent_in : PlusDirent → Dirent

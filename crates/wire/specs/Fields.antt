@@ -10,8 +10,10 @@ pub data Field : Type 0 where
   unread : ℕ → Field
   -- that many bytes
   raw : ℕ → Field
-  -- a text without a zero byte, and a zero byte
+  -- a name: bytes without a zero byte, and a zero byte
   text : Field
+  -- the text of a link, which is no name: bytes without a zero byte, and a zero byte
+  link_text : Field
   -- a four-byte number that is at most limit, gap bytes that are not read, and then, up to the end, unit times as many
   -- bytes as the number says
   counted : (unit gap limit : ℕ) → Field
@@ -33,6 +35,7 @@ Spells (number len ∷ fields) (num n ∷ values) body = (len ≤ length body) �
 Spells (unread len ∷ fields) values body = (len ≤ length body) × Spells fields values (drop len body)
 Spells (raw len ∷ fields) (bytes d ∷ values) body = (len ≤ length body) × (d ≡ take len body) × Spells fields values (drop len body)
 Spells (text ∷ fields) (name t ∷ values) body = All (λ b. b ≢ 0) t × (rest : List ℕ) × (body ≡ t ++ 0 ∷ rest) × Spells fields values rest
+Spells (link_text ∷ fields) (bytes t ∷ values) body = All (λ b. b ≢ 0) t × (rest : List ℕ) × (body ≡ t ++ 0 ∷ rest) × Spells fields values rest
 Spells (counted unit gap limit ∷ []) (bytes d ∷ []) body =
     (4 + gap ≤ length body) × (little_number 4 body ≤ limit) × (d ≡ drop (4 + gap) body) × (length d ≡ unit * little_number 4 body)
 Spells (limited limit ∷ fields) (num n ∷ values) body = (4 ≤ length body) × (n ≡ little_number 4 body) × (n ≤ limit) × Spells fields values (drop 4 body)
@@ -46,6 +49,7 @@ CanTell (number len ∷ fields) (num n ∷ values) = (n < 256 ^ len) × CanTell 
 CanTell (unread _ ∷ fields) values = CanTell fields values
 CanTell (raw len ∷ fields) (bytes d ∷ values) = (length d ≡ len) × CanTell fields values
 CanTell (text ∷ fields) (name t ∷ values) = All (λ b. b ≢ 0) t × CanTell fields values
+CanTell (link_text ∷ fields) (bytes t ∷ values) = All (λ b. b ≢ 0) t × CanTell fields values
 CanTell (counted unit _ limit ∷ []) (bytes d ∷ []) = (count : ℕ) × (count < 256 ^ 4) × (count ≤ limit) × (length d ≡ unit * count)
 CanTell (limited limit ∷ fields) (num n ∷ values) = (n < 256 ^ 4) × (n ≤ limit) × CanTell fields values
 CanTell (anything ∷ []) [] = Unit {0}

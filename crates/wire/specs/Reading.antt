@@ -9,7 +9,7 @@ use Rattle.wire.specs.declared.header.Header.{Header}
 use Rattle.wire.specs.declared.request.TheConstants.{HEADER_LEN, MAX_FRAME_LEN}
 use Rattle.wire.specs.declared.request.Request.{Request}
 use Rattle.wire.specs.declared.request.Operation.{Operation}
-use Rattle.wire.specs.Fields.{Field, number, unread, raw, text, counted, limited, anything, Value, num, name, bytes}
+use Rattle.wire.specs.Fields.{Field, number, unread, raw, text, link_text, counted, limited, anything, Value, num, name, bytes}
 use Rattle.wire.specs.Requests.{layout, opcode_of, values_of, header_in, body_in}
 
 infixl 10 ◌>>=◌
@@ -61,6 +61,7 @@ values_at (number len ∷ fields) body = number_at len body >>= λ x. values_at 
 values_at (unread len ∷ fields) body = unread_at len body >>= λ rest. values_at fields rest
 values_at (raw len ∷ fields) body = raw_at len body >>= λ x. values_at fields x.1 >>= λ values. Ok (bytes x.0 ∷ values)
 values_at (text ∷ fields) body = text_at body >>= λ x. values_at fields x.1 >>= λ values. Ok (name x.0 ∷ values)
+values_at (link_text ∷ fields) body = text_at body >>= λ x. values_at fields x.1 >>= λ values. Ok (bytes x.0 ∷ values)
 values_at (counted unit gap limit ∷ []) body = counted_at unit gap limit body >>= λ d. Ok (bytes d ∷ [])
 values_at (counted unit gap limit ∷ _ ∷ _) body = Err Body
 values_at (limited limit ∷ fields) body = limited_at limit body >>= λ x. values_at fields x.1 >>= λ values. Ok (num x.0 ∷ values)

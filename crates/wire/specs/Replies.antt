@@ -10,16 +10,32 @@ use Rattle.wire.specs.declared.reply.ReplyBody.TheVariants.{Failed, Done, Entry,
 use Rattle.wire.specs.declared.reply.Entry.{Entry as GivenEntry}
 use Rattle.wire.specs.declared.reply.Attributes.{Attributes as GivenAttributes}
 use Rattle.wire.specs.declared.reply.InitOut.{InitOut}
-use Rattle.wire.specs.declared.reply.Kind.{Kind}
-use Rattle.wire.specs.declared.reply.Kind.TheVariants.{File, Folder}
+use Rattle.payload.specs.declared.attributes.Kind.{Kind}
+use Rattle.payload.specs.declared.attributes.Kind.TheVariants.{Folder, File, Link, Special}
+use Rattle.payload.specs.declared.attributes.Special.TheVariants.{Pipe, Socket, Character, Block}
 use Rattle.wire.specs.Fields.{Field, raw, u16, u32, u64, Value, num, bytes, Spells}
 
 -- ---- attributes and entries
 
--- the file type bits of a mode: a directory, or a regular file
+-- the file type bits of a mode, as in stat.h
 abbrev pub type_bits : Kind → ℕ
 type_bits Folder = 0o40000
 type_bits File = 0o100000
+type_bits Link = 0o120000
+type_bits (Special Pipe) = 0o10000
+type_bits (Special Socket) = 0o140000
+type_bits (Special (Character _)) = 0o20000
+type_bits (Special (Block _)) = 0o60000
+
+-- the number of a device, and 0 for what is none
+abbrev pub rdev_of : Kind → ℕ
+rdev_of Folder = 0
+rdev_of File = 0
+rdev_of Link = 0
+rdev_of (Special Pipe) = 0
+rdev_of (Special Socket) = 0
+rdev_of (Special (Character number)) = number
+rdev_of (Special (Block number)) = number
 
 -- the file type bits, and the lowest twelve bits of the permissions
 abbrev pub mode_of : Kind → ℕ → ℕ
@@ -36,10 +52,10 @@ attributes_layout =
 
 abbrev pub attributes_values : GivenAttributes → List Value
 attributes_values a =
-    num a.ino ∷ num a.size ∷ num (blocks_of a.size)
+    num a.details.ino ∷ num a.size ∷ num (blocks_of a.size)
     ∷ num a.details.accessed.seconds ∷ num a.details.modified.seconds ∷ num a.details.changed.seconds
     ∷ num a.details.accessed.nanos ∷ num a.details.modified.nanos ∷ num a.details.changed.nanos
-    ∷ num (mode_of a.kind a.details.permissions) ∷ num a.details.links ∷ num a.details.uid ∷ num a.details.gid ∷ num 0 ∷ num 4096 ∷ num 0 ∷ []
+    ∷ num (mode_of a.kind a.details.permissions) ∷ num a.details.links ∷ num a.details.uid ∷ num a.details.gid ∷ num (rdev_of a.kind) ∷ num 4096 ∷ num 0 ∷ []
 
 -- nodeid, generation, entry_valid, attr_valid; entry_valid_nsec, attr_valid_nsec; the attributes
 abbrev pub entry_layout : List Field
@@ -149,8 +165,10 @@ pub record IsErrno (errno : ℤ) : Type 0 where
 
 -- a folder has size 0
 abbrev pub IsSized : Kind → ℕ → Type 0
-IsSized File size = Unit {0}
 IsSized Folder size = size ≡ 0
+IsSized File size = Unit {0}
+IsSized Link size = Unit {0}
+IsSized (Special _) size = Unit {0}
 
 -- which values the body of a reply may have
 abbrev pub IsAnswer : ReplyBody → Type 0

@@ -4,13 +4,13 @@ use Rattle.std.specs.Str.{IsUtf8}
 use Rattle.std.specs.List.{AllByRecursion}
 use Rattle.byteorder.specs.Endian.{little_number}
 use Rattle.wire.specs.declared.header.Header.{Header}
-use Rattle.wire.specs.declared.opcode.TheConstants.{LOOKUP, FORGET, GETATTR, SETATTR, MKDIR, UNLINK, RMDIR, RENAME, OPEN, READ, WRITE, STATFS, RELEASE, FSYNC, FLUSH, INIT, OPENDIR, READDIR, RELEASEDIR, FSYNCDIR, CREATE, INTERRUPT, DESTROY, BATCH_FORGET, READDIRPLUS, RENAME2}
+use Rattle.wire.specs.declared.opcode.TheConstants.{LOOKUP, FORGET, GETATTR, SETATTR, READLINK, SYMLINK, MKDIR, UNLINK, RMDIR, RENAME, OPEN, READ, WRITE, STATFS, RELEASE, FSYNC, FLUSH, INIT, OPENDIR, READDIR, RELEASEDIR, FSYNCDIR, CREATE, INTERRUPT, DESTROY, BATCH_FORGET, READDIRPLUS, RENAME2}
 use Rattle.wire.specs.declared.request.TheConstants.{HEADER_LEN, MAX_FRAME_LEN, MAX_READ_LEN, MAX_WRITE_LEN}
 use Rattle.wire.specs.declared.request.NewAttributes.{NewAttributes}
 use Rattle.wire.specs.declared.request.Request.{Request}
 use Rattle.wire.specs.declared.request.Operation.{Operation}
-use Rattle.wire.specs.declared.request.Operation.TheVariants.{Lookup, Forget, GetAttr, SetAttr, MakeDir, Unlink, RemoveDir, Rename, Open, Read, Write, StatFs, Release, Sync, Flush, Init, OpenDir, ReadDir, ReleaseDir, SyncDir, Create, Interrupt, Destroy, BatchForget, ReadDirPlus, Rename2}
-use Rattle.wire.specs.Fields.{Field, unread, text, counted, limited, anything, u32, u64, Value, num, name, bytes, Spells}
+use Rattle.wire.specs.declared.request.Operation.TheVariants.{Lookup, Forget, GetAttr, SetAttr, ReadLink, MakeLink, MakeDir, Unlink, RemoveDir, Rename, Open, Read, Write, StatFs, Release, Sync, Flush, Init, OpenDir, ReadDir, ReleaseDir, SyncDir, Create, Interrupt, Destroy, BatchForget, ReadDirPlus, Rename2}
+use Rattle.wire.specs.Fields.{Field, unread, text, link_text, counted, limited, anything, u32, u64, Value, num, name, bytes, Spells}
 
 -- ---- the header: the length, the opcode, unique, the node number, and sixteen bytes that are not read
 
@@ -55,6 +55,8 @@ layout opcode =
     else (if opcode == FORGET then Some (u64 ∷ [])
     else (if opcode == GETATTR then Some (unread 16 ∷ [])
     else (if opcode == SETATTR then Some (u32 ∷ unread 4 ∷ u64 ∷ u64 ∷ new_attributes_layout)
+    else (if opcode == READLINK then Some (anything ∷ [])
+    else (if opcode == SYMLINK then Some (text ∷ link_text ∷ [])
     else (if opcode == MKDIR then Some (u32 ∷ u32 ∷ text ∷ [])
     else (if opcode == UNLINK then Some (text ∷ [])
     else (if opcode == RMDIR then Some (text ∷ [])
@@ -77,13 +79,15 @@ layout opcode =
     else (if opcode == BATCH_FORGET then Some (counted 16 4 (2 ^ 32 - 1) ∷ [])
     else (if opcode == READDIRPLUS then Some (u64 ∷ u64 ∷ limited MAX_READ_LEN ∷ unread 20 ∷ [])
     else (if opcode == RENAME2 then Some (u64 ∷ u32 ∷ unread 4 ∷ text ∷ text ∷ [])
-    else None)))))))))))))))))))))))))
+    else None)))))))))))))))))))))))))))
 
 abbrev pub opcode_of : Operation → ℕ
 opcode_of (Lookup _) = LOOKUP
 opcode_of (Forget _) = FORGET
 opcode_of GetAttr = GETATTR
 opcode_of (SetAttr _ _ _ _) = SETATTR
+opcode_of ReadLink = READLINK
+opcode_of (MakeLink _ _) = SYMLINK
 opcode_of (MakeDir _ _ _) = MKDIR
 opcode_of (Unlink _) = UNLINK
 opcode_of (RemoveDir _) = RMDIR
@@ -113,6 +117,8 @@ values_of (Lookup n) = name n.now ∷ []
 values_of (Forget nlookup) = num nlookup ∷ []
 values_of GetAttr = []
 values_of (SetAttr valid fh size attributes) = num valid ∷ num fh ∷ num size ∷ new_attributes_values attributes
+values_of ReadLink = []
+values_of (MakeLink n t) = name n.now ∷ bytes t.now ∷ []
 values_of (MakeDir n mode umask) = num mode ∷ num umask ∷ name n.now ∷ []
 values_of (Unlink n) = name n.now ∷ []
 values_of (RemoveDir n) = name n.now ∷ []
@@ -170,7 +176,7 @@ pub record IsRequest (frame : List ℕ) (r : Request) : Type 0 where
   pub body : IsLaidOut (layout (opcode_in frame)) (values_of r.operation) (body_in frame)
   pub names : AllByRecursion IsName (names_in (values_of r.operation))
 
--- the same request, wherever its names are stored
+-- the same request, wherever its names and its other bytes are stored
 pub record IsSame (a b : Request) : Type 0 where
   pub unique : a.unique ≡ b.unique
   pub node : a.node ≡ b.node

@@ -11,7 +11,7 @@ use Rattle.wire.specs.declared.bodies.ReplyHeader.{ReplyHeader}
 use Rattle.wire.specs.declared.reply.Reply.{Reply}
 use Rattle.wire.specs.declared.reply.ReplyBody.{ReplyBody}
 use Rattle.wire.specs.declared.reply.ReplyBody.TheVariants.{Failed}
-use Rattle.wire.specs.Fields.{Field, number, unread, raw, text, counted, limited, anything, Value, num, name, bytes}
+use Rattle.wire.specs.Fields.{Field, number, unread, raw, text, link_text, counted, limited, anything, Value, num, name, bytes}
 use Rattle.wire.specs.Requests.{layout, opcode_of, values_of}
 use Rattle.wire.specs.Replies.{reply_layout, reply_values}
 
@@ -40,6 +40,7 @@ written (number len ∷ fields) (num n ∷ values) = le len n ++ written fields 
 written (unread len ∷ fields) values = zeros len ++ written fields values
 written (raw len ∷ fields) (bytes d ∷ values) = d ++ written fields values
 written (text ∷ fields) (name t ∷ values) = t ++ 0 ∷ written fields values
+written (link_text ∷ fields) (bytes t ∷ values) = t ++ 0 ∷ written fields values
 written (counted unit gap limit ∷ fields) (bytes d ∷ values) = le 4 (length d / unit) ++ zeros gap ++ d
 written (limited limit ∷ fields) (num n ∷ values) = le 4 n ++ written fields values
 written (anything ∷ fields) values = []

@@ -2,15 +2,16 @@
 
 ghost use Rattle.std.specs.Prelude.{◌≡◌, ◌≤◌, ◌+◌, ◌^◌, ◌++◌, length, vec_len, vec_capacity};
 ghost use Rattle.wire.specs.Fields.{CanTell};
-ghost use Rattle.wire.specs.Replies.{blocks_of, mode_of, attributes_layout, attributes_values, entry_layout, entry_values, attr_layout, attr_values, opened_layout, opened_values, created_layout, created_values, wrote_layout, wrote_values, statfs_layout, statfs_values, init_layout, init_values, reply_layout, reply_values, IsAnswer};
+ghost use Rattle.wire.specs.Replies.{blocks_of, type_bits, mode_of, rdev_of, attributes_layout, attributes_values, entry_layout, entry_values, attr_layout, attr_values, opened_layout, opened_values, created_layout, created_values, wrote_layout, wrote_values, statfs_layout, statfs_values, init_layout, init_values, reply_layout, reply_values, IsAnswer};
 ghost use Rattle.wire.specs.Written.{written, body_bytes, header_bytes, joined};
 
 use crate::put::{pair, put, put_u16s, put_u32s, put_words, word};
 use crate::reply::{
-    ATTRIBUTES_LEN, Attributes, CREATED_LEN, ENTRY_LEN, Entry, INIT_LEN, InitOut, Kind, OPENED_LEN,
+    ATTRIBUTES_LEN, Attributes, CREATED_LEN, ENTRY_LEN, Entry, INIT_LEN, InitOut, OPENED_LEN,
     REPLY_HEADER_LEN, ReplyBody, STATFS_LEN, WROTE_LEN,
 };
-use crate::request::{MAX_READ_LEN, Time};
+use crate::request::MAX_READ_LEN;
+use payload::{Kind, Special, Time};
 
 /// The header of a reply (`fuse_out_header`): the length with the error, and the number of the request.
 #[derive(Clone, Copy)]
@@ -29,13 +30,37 @@ fn blocks(size: u64) -> u64
     }
 }
 
+/// The file type bits of a mode.
+fn type_bits(kind: Kind) -> u32
+    ensures is { result ≡ type_bits kind }
+    ensures short { result ≤ 0o140000 }
+{
+    match kind {
+        Kind::Folder => 0o040000,
+        Kind::File => 0o100000,
+        Kind::Link => 0o120000,
+        Kind::Special(Special::Pipe) => 0o010000,
+        Kind::Special(Special::Socket) => 0o140000,
+        Kind::Special(Special::Character(_)) => 0o020000,
+        Kind::Special(Special::Block(_)) => 0o060000,
+    }
+}
+
 /// A mode: the file type bits and the permission bits.
 fn mode(kind: Kind, permissions: u32) -> u32
     ensures { result ≡ mode_of kind permissions }
 {
+    type_bits(kind) + permissions % 0o10000
+}
+
+/// The number of a device, and 0 for what is none.
+fn rdev(kind: Kind) -> u32
+    ensures { result ≡ rdev_of kind }
+{
     match kind {
-        Kind::Folder => 0o040000 + permissions % 0o10000,
-        Kind::File => 0o100000 + permissions % 0o10000,
+        Kind::Special(Special::Character(number) | Special::Block(number)) => number,
+        Kind::Special(Special::Pipe | Special::Socket) => 0,
+        Kind::Folder | Kind::File | Kind::Link => 0,
     }
 }
 
@@ -53,9 +78,10 @@ fn attributes_words(a: &Attributes) -> [[u8; 8]; 11]
     ensures words { joined result ≡ written attributes_layout (attributes_values a.now) }
     ensures tells { CanTell attributes_layout (attributes_values a.now) }
 {
-    let (ino, size, links) = (a.ino, a.size, a.details.links);
+    let (ino, size, links) = (a.details.ino, a.size, a.details.links);
     let (uid, gid) = (a.details.uid, a.details.gid);
     let (blocks, mode) = (blocks(size), mode(a.kind, a.details.permissions));
+    let rdev = rdev(a.kind);
     let (accessed, accessed_nanos) = parts(&a.details.accessed);
     let (modified, modified_nanos) = parts(&a.details.modified);
     let (changed, changed_nanos) = parts(&a.details.changed);
@@ -69,7 +95,7 @@ fn attributes_words(a: &Attributes) -> [[u8; 8]; 11]
         pair(accessed_nanos, modified_nanos),
         pair(changed_nanos, mode),
         pair(links, uid),
-        pair(gid, 0),
+        pair(gid, rdev),
         pair(4096, 0),
     ]
 }

@@ -8,7 +8,8 @@ ghost use Rattle.wire.specs.Written.{joined, written, zeros};
 
 use crate::bodies::entry_words;
 use crate::put::{len_and, put, put_words, word};
-use crate::reply::{ENTRY_LEN, Entry, Kind};
+use crate::reply::{ENTRY_LEN, Entry};
+use payload::{Kind, Special};
 use std::alloc::AllocError;
 
 /// How many bytes come before the name in a directory entry (`fuse_dirent`).
@@ -17,12 +18,18 @@ pub const DIRENT_LEN: usize = 24;
 /// The inode number of an entry that was not looked up (`FUSE_UNKNOWN_INO` of libfuse).
 pub const NO_INO: u64 = 4294967295;
 
+/// The type of a directory entry, as `readdir(3)` has it.
 fn type_of(kind: Kind) -> u32
     ensures { result ≡ type_of kind }
 {
     match kind {
         Kind::Folder => 4,
         Kind::File => 8,
+        Kind::Link => 10,
+        Kind::Special(Special::Pipe) => 1,
+        Kind::Special(Special::Socket) => 12,
+        Kind::Special(Special::Character(_)) => 2,
+        Kind::Special(Special::Block(_)) => 6,
     }
 }
 
@@ -89,7 +96,7 @@ fn ino_of(entry: &Option<Entry>) -> u64
     ensures { result ≡ ino_of entry.now }
 {
     match entry {
-        Some(entry) => entry.attributes.ino,
+        Some(entry) => entry.attributes.details.ino,
         None => NO_INO,
     }
 }

@@ -14,6 +14,12 @@ pub const GETATTR: u32 = 3;
 /// `FUSE_SETATTR` of `fuse.h`: changes attributes of a node.
 pub const SETATTR: u32 = 4;
 
+/// `FUSE_READLINK` of `fuse.h`: asks for the text of a symbolic link.
+pub const READLINK: u32 = 5;
+
+/// `FUSE_SYMLINK` of `fuse.h`: makes a symbolic link.
+pub const SYMLINK: u32 = 6;
+
 /// `FUSE_MKDIR` of `fuse.h`: makes a folder.
 pub const MKDIR: u32 = 9;
 

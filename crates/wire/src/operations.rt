@@ -11,14 +11,15 @@ use crate::fronts::{
 };
 use crate::opcode::{
     BATCH_FORGET, CREATE, DESTROY, FLUSH, FORGET, FSYNC, FSYNCDIR, GETATTR, INIT, INTERRUPT,
-    LOOKUP, MKDIR, OPEN, OPENDIR, READ, READDIR, READDIRPLUS, RELEASE, RELEASEDIR, RENAME, RENAME2,
-    RMDIR, SETATTR, STATFS, UNLINK, WRITE,
+    LOOKUP, MKDIR, OPEN, OPENDIR, READ, READDIR, READDIRPLUS, READLINK, RELEASE, RELEASEDIR,
+    RENAME, RENAME2, RMDIR, SETATTR, STATFS, SYMLINK, UNLINK, WRITE,
 };
 use crate::opened::{
     create, flush, open, open_dir, read, read_dir, read_dir_plus, release, release_dir, sync,
     sync_dir, write,
 };
-use crate::request::{NewAttributes, Operation, Time};
+use crate::request::{NewAttributes, Operation};
+use payload::Time;
 
 pub fn name_alone(body: &[u8]) -> Result<&str, WireFault>
     ensures { Gives (λ x. name x.now ∷ []) result (fields_at (text ∷ []) body.now) }
@@ -94,6 +95,18 @@ fn set_attr(body: &[u8]) -> Result<Operation<'_>, WireFault>
         size,
         attributes,
     })
+}
+
+/// The text of the link is no name: it is not tested, and may have any length.
+#[tactic(auto, unfolding(crate::specs::Reading::operation_at))]
+fn make_link(body: &[u8]) -> Result<Operation<'_>, WireFault>
+    ensures { Gives told result (operation_at SYMLINK body.now) }
+{
+    let (name, rest) = text_front(body)?;
+    let (text, rest) = text_front(rest)?;
+    nothing_left(rest)?;
+    let name = name_of(name)?;
+    Ok(Operation::MakeLink { name, text })
 }
 
 #[tactic(auto, unfolding(crate::specs::Reading::operation_at))]
@@ -196,6 +209,8 @@ pub fn operation_of(opcode: u32, body: &[u8]) -> Result<Operation<'_>, WireFault
         FORGET => forget(body),
         GETATTR => get_attr(body),
         SETATTR => set_attr(body),
+        READLINK => Ok(Operation::ReadLink),
+        SYMLINK => make_link(body),
         MKDIR => make_dir(body),
         UNLINK => Ok(Operation::Unlink {
             name: name_alone(body)?,

@@ -7,8 +7,8 @@ ghost use Rattle.wire.specs.Rows.{part_bytes, parts_bytes};
 
 use crate::opcode::{
     BATCH_FORGET, CREATE, DESTROY, FLUSH, FORGET, FSYNC, FSYNCDIR, GETATTR, INIT, INTERRUPT,
-    LOOKUP, MKDIR, OPEN, OPENDIR, READ, READDIR, READDIRPLUS, RELEASE, RELEASEDIR, RENAME, RENAME2,
-    RMDIR, SETATTR, STATFS, UNLINK, WRITE,
+    LOOKUP, MKDIR, OPEN, OPENDIR, READ, READDIR, READDIRPLUS, READLINK, RELEASE, RELEASEDIR,
+    RENAME, RENAME2, RMDIR, SETATTR, STATFS, SYMLINK, UNLINK, WRITE,
 };
 use crate::put::{pair, put, put_low_u32, put_text, put_u32, put_u64, put_words, put_zeros, word};
 use crate::request::{HEADER_LEN, NewAttributes, Operation};
@@ -60,6 +60,11 @@ pub fn row_of<'a>(operation: &Operation<'a>) -> Row<'a>
         } => (
             SETATTR,
             [U32(valid), Zeros(4), U64(fh), U64(size), New(attributes)],
+        ),
+        Operation::ReadLink => (READLINK, [end; 5]),
+        Operation::MakeLink { name, text } => (
+            SYMLINK,
+            [Text(name), Bytes(text), Zeros(1), end, end],
         ),
         Operation::MakeDir { name, mode, umask } => (
             MKDIR,

@@ -1,9 +1,10 @@
-use Rattle.std.proofs.Common.{◌≡◌, ◌<◌, length, take, sym, ap, ◌∙◌, subst, arith, Some, None}
+use Rattle.std.proofs.Common.{◌≡◌, ◌<◌, length, take, sym, ap, ◌∙◌, subst, arith, rules, Some, None}
 use Rattle.std.specs.Option.{option_map}
 use Rattle.paths.specs.Prefixes.{Names}
+use Rattle.payload.specs.declared.attributes.Kind.TheVariants as kinds
 use Rattle.backing.specs.Tree.{kind_of}
 use Rattle.backing.specs.Entries.{tree_of}
-use Rattle.backing.proofs.Descending.{stops_absent, stops_file, folder_below}
+use Rattle.backing.proofs.Descending.{stops_absent, stops_other, folder_below}
 use Rattle.backing.proofs.checks.expect_reached.Goals as goal
 
 pub returns-in-None-clause-err : goal.returns-in-None-clause-err
@@ -18,9 +19,10 @@ pub returns-in-Some-File-clause-err : goal.returns-in-Some-File-clause-err
 returns-in-Some-File-clause-err c =
     let at = tree_of c.args.entries.now in
     let k = c.loop-depth.depth in
-    let kind = ap (λ (q : Names). option_map kind_of (at (take k q))) (sym c.names-names.ensures) ∙ (sym c.kind_at.ensures ∙ (c.in-Some-File.is ∙ ap Some c.in-Some-File.field-0-is)) in
+    let kind = ap (λ (q : Names). option_map kind_of (at (take k q))) (sym c.names-names.ensures) ∙ (sym c.kind_at.ensures ∙ c.in-Some-File.is) in
     let within : k < length c.args.path.now = subst (λ (q : Names). k < length q) c.names-names.ensures c.loop-depth-test.true in
-    stops_file at c.args.path.now k within c.loop-depth.invariant kind
+    let other : c.in-Some-File.field-0 ≡ kinds.Folder → ⊥ = λ e. search rules in
+    stops_other at c.args.path.now k c.in-Some-File.field-0 within c.loop-depth.invariant kind other
 
 pub loop-depth-preserved : goal.loop-depth-preserved
 loop-depth-preserved c =

@@ -12,6 +12,9 @@ returns-in-Make-clause-ends c = subst (λ (call : Call). Ends (tree_of c.args.en
 pub returns-in-MakeDir-clause-ends : goal.returns-in-MakeDir-clause-ends
 returns-in-MakeDir-clause-ends c = subst (λ (call : Call). Ends (tree_of c.args.entries.now.items) (asked call) c.make_dir.result (tree_of c.make_dir.new.entries.items)) (sym c.in-MakeDir.is) (c.make_dir.ensures.ends c.in-MakeDir.permissions)
 
+pub returns-in-MakeLink-clause-ends : goal.returns-in-MakeLink-clause-ends
+returns-in-MakeLink-clause-ends c = subst (λ (call : Call). Ends (tree_of c.args.entries.now.items) (asked call) c.make_link.result (tree_of c.make_link.new.entries.items)) (sym c.in-MakeLink.is) c.make_link.ensures.ends
+
 pub returns-in-Remove-clause-ends : goal.returns-in-Remove-clause-ends
 returns-in-Remove-clause-ends c = subst (λ (call : Call). Ends (tree_of c.args.entries.now.items) (asked call) c.remove.result (tree_of c.remove.new.entries.items)) (sym c.in-Remove.is) c.remove.ensures.ends
 

@@ -2,7 +2,7 @@ use Rattle.std.proofs.Common.{◌≡◌, ◌+◌, take, List, ◌++◌, ◌∷�
 use Rattle.std.proofs.lemmas.List.{take_more, take_all}
 use Rattle.paths.specs.Prefixes.{Name, Names}
 use Rattle.std.specs.declared.alloc.Global.{Global}
-use Rattle.backing.specs.declared.call.Kind.{Kind}
+use Rattle.payload.specs.declared.attributes.Kind.{Kind}
 use Rattle.backing.specs.declared.call.Child.{Child}
 use Rattle.backing.specs.declared.entries.TreeEntry.{TreeEntry}
 use Rattle.backing.specs.Entries.{look, tree_of}

@@ -28,6 +28,7 @@ asks_left (Some first) ending call e = omega arith
 asks_left None (endings.Look p tells) call e = lit< tt
 asks_left None (endings.List p) call e = lit< tt
 asks_left None (endings.Read p offset size) call e = lit< tt
+asks_left None (endings.ReadLink p) call e = lit< tt
 asks_left None (endings.Write p offset piece) call e = lit< tt
 asks_left None (endings.Each looks) call e = omega (arith, looks_left looks.left looks.found call e)
 asks_left None (endings.Replace s t left) call e = omega arith

@@ -11,7 +11,7 @@ returns g c =
     record {
       over = c.serve_new-end.result;
       last = c.serve_new-end.new.link;
-      serves = subst (λ (link : Hexing). ServesHex c.args.sample c.args.postings link c.serve_new-end.result c.serve_new-end.new.link) c.new-link.ensures c.serve_new-end.ensures;
+      serves = subst (λ (link : Hexing). ServesHex c.args.served link c.serve_new-end.result c.serve_new-end.new.link) c.new-link.ensures c.serve_new-end.ensures;
       output_is = c.into_writer.ensures;
       status_is = c.status_after.ensures ∙ ap exit_of failure;
       tells = subst (λ (f : Option Failure). Tells f c.tell_any-told.result (g.F.Write.contents c.args.faults.now) (g.F.Write.contents c.tell_any-told.new.faults)) failure c.tell_any-told.ensures;

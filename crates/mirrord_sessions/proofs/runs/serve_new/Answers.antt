@@ -11,5 +11,5 @@ use Rattle.mirrord_sessions.proofs.runs.serve_new.Goals as goal
 
 pub returns : goal.returns
 returns g c =
-    hex_served c.args.sample c.args.postings c.in-Ok.tree c.serve_known.result.calls c.args.link.now c.serve_known.result.end c.serve_known.new.link c.in-Ok.ensures
-    (subst (λ (terms : Terms). ServesKnown terms (traffic Receives Sends) (known_calls Gives memory_limit memory_tree failed_in) c.in-Ok.tree c.serve_known.result.calls c.args.link.now c.serve_known.result.end c.serve_known.new.link) c.unowned.ensures c.serve_known.ensures)
+    hex_served c.args.served c.in-Ok.tree c.serve_known.result.calls c.args.link.now c.serve_known.result.end c.serve_known.new.link c.in-Ok.ensures
+    (subst (λ (terms : Terms). ServesKnown terms (traffic Receives Sends) (known_calls Gives memory_limit memory_tree failed_in) c.in-Ok.tree c.serve_known.result.calls c.args.link.now c.serve_known.result.end c.serve_known.new.link) c.unowned-terms.ensures c.serve_known.ensures)

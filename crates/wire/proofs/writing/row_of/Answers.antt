@@ -1,7 +1,7 @@
 use Rattle.std.proofs.Common.{rules}
 use Rattle.wire.specs.Written.{zeros}
 use Rattle.wire.proofs.Lengths.{lengths}
-use Rattle.wire.proofs.writing.row_of.Goals.{in-Lookup, in-Forget, in-GetAttr, in-SetAttr, in-MakeDir, in-Unlink, in-RemoveDir, in-Rename, in-Open, in-Read, in-Write, in-StatFs, in-Release, in-Sync, in-Flush, in-Init, in-OpenDir, in-ReadDir, in-ReleaseDir, in-SyncDir, in-Create, in-Interrupt, in-Destroy, in-BatchForget, in-ReadDirPlus, in-Rename2}
+use Rattle.wire.proofs.writing.row_of.Goals.{in-Lookup, in-Forget, in-GetAttr, in-SetAttr, in-ReadLink, in-MakeLink, in-MakeDir, in-Unlink, in-RemoveDir, in-Rename, in-Open, in-Read, in-Write, in-StatFs, in-Release, in-Sync, in-Flush, in-Init, in-OpenDir, in-ReadDir, in-ReleaseDir, in-SyncDir, in-Create, in-Interrupt, in-Destroy, in-BatchForget, in-ReadDirPlus, in-Rename2}
 use Rattle.wire.proofs.writing.row_of.Goals as goal
 
 -- with the operation given, the layout is computed directly and not found by a search over all opcodes
@@ -12,6 +12,8 @@ returns-clause-bytes c = elim c.match-operation.branch [
   | in-Forget w ↦ rw (w.opcode-is, w.in-Forget.is) search (rules, lengths)
   | in-GetAttr w ↦ rw (w.opcode-is, w.in-GetAttr.is) search (rules, lengths)
   | in-SetAttr w ↦ rw (w.opcode-is, w.in-SetAttr.is) search (rules, lengths)
+  | in-ReadLink w ↦ rw (w.opcode-is, w.in-ReadLink.is) search (rules, lengths)
+  | in-MakeLink w ↦ rw (w.opcode-is, w.in-MakeLink.is) search (rules, lengths)
   | in-MakeDir w ↦ rw (w.opcode-is, w.in-MakeDir.is) search (rules, lengths)
   | in-Unlink w ↦ rw (w.opcode-is, w.in-Unlink.is) search (rules, lengths)
   | in-RemoveDir w ↦ rw (w.opcode-is, w.in-RemoveDir.is) search (rules, lengths)
