@@ -169,10 +169,48 @@ rsync -a own/ own3 && show own3 | cut -d' ' -f1-4
 rm -r own own2 own3 sg
 """.strip().split("\n")
 
+# Links, which the client follows and the server never does. Their times cannot be set.
+LINKS = r"""
+echo text > lf && ln -s lf l && cat l && readlink l && stat -c '%F %s %A' l
+ln -s lf l
+ln -sf none l && readlink l; cat l
+ln -s round round && cat round
+ln -s /etc/none out && readlink out; ls -l out | cut -c1-10; test -L out && test ! -e out
+ln -s . here && ls here/lf && cat here/here/here/lf
+ln -s "$(printf 'odd \377')" odd && readlink odd | od -c
+ln -s "$(printf '%04095d' 0)" long && readlink long | wc -c; rm -f long
+mkdir ld && echo x > ld/f && ln -s ld ldir && cat ldir/f && echo y > ldir/g && ls ldir/ && mv ldir moved && cat moved/g
+ln -s f ld/fl && mv ld/fl . && readlink fl && mv fl lf && readlink lf
+ln -s ../none ld/up && find . -type l -printf '%p %l\n' | sort && find -L ld -maxdepth 1 -printf '%P %y\n' | sort
+rmdir here; ls moved
+chown -h "$(id -u):$(id -g)" out && stat -c '%u %g' out
+cp -d out copied && readlink copied && cp -r ld ld2 && find ld2 -printf '%P %y %l\n' | sort
+cp -a ld ld3 2> /dev/null; find ld3 -printf '%P %y %l\n' | sort
+tar -cf "$ELSEWHERE/l.tar" ld out here && mkdir lx && tar -xf "$ELSEWHERE/l.tar" -C lx && find lx -printf '%P %y %l\n' | sort && tar -df "$ELSEWHERE/l.tar" -C lx | grep -v 'Mod time'
+rsync -rlpt --omit-link-times ld out here synced/ && find synced -printf '%P %y %l\n' | sort
+git init -q lg && cd lg && git branch -q -M main && git config user.name a && git config user.email a@b && echo abc > f && ln -s f fl && ln -s none nl && git add . && git commit -q -m one && git status --porcelain && git ls-files -s
+git clone -q lg lc && readlink lc/fl lc/nl && git -C lc status --porcelain && ln -sf other lc/fl && git -C lc status --porcelain && git -C lc checkout -q fl && readlink lc/fl
+python3 -m venv --without-pip venv && venv/bin/python3 -c 'print(1)' && find venv -type l -printf '%P %l\n' | sort && rm -r venv
+rm -rf ld ld2 ld3 lx lg lc synced && ls -l | awk '{ print $1, $9, $10, $11 }'
+rm -f out odd here moved round l lf copied
+""".strip().split("\n")
+
+# A pipe and a socket stand there already.
+PIPES = """
+ls -l pipe socket | cut -c1-10
+stat -c '%F %a %t %T' pipe socket
+cat pipe & echo through > pipe; wait
+(seq 1 3 > pipe &) ; sort -r pipe
+chmod 640 pipe && stat -c %a pipe
+mv pipe pipe2 && ls pipe2 && test -p pipe2
+tar -cf - pipe2 2>&1 | tar -tvf - | cut -c1-10
+rm pipe2 socket
+""".strip().split("\n")
+
 REFUSED = """
-ln -s joined link
 ln joined link
 mkfifo pipe
+touch -h -d 2020-01-01 link
 setfattr -n user.a -v 1 joined
 fallocate -l 100 allocated
 """.strip().split("\n")

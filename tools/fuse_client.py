@@ -24,7 +24,7 @@ import struct
 import time
 from typing import NamedTuple
 
-LOOKUP, FORGET, GETATTR, SETATTR, MKDIR, UNLINK, RMDIR, RENAME = 1, 2, 3, 4, 9, 10, 11, 12
+LOOKUP, FORGET, GETATTR, SETATTR, READLINK, SYMLINK, MKDIR, UNLINK, RMDIR, RENAME = 1, 2, 3, 4, 5, 6, 9, 10, 11, 12
 OPEN, READ, WRITE, STATFS, RELEASE, FSYNC, FLUSH, INIT = 14, 15, 16, 17, 18, 20, 25, 26
 OPENDIR, READDIR, RELEASEDIR, FSYNCDIR, CREATE, INTERRUPT, DESTROY = 27, 28, 29, 30, 35, 36, 38
 BATCH_FORGET, READDIRPLUS, RENAME2 = 42, 44, 45
@@ -35,7 +35,7 @@ MAJOR, MINOR = 7, 31
 LEAST_FRAME, MOST_FRAME = 40, 69632
 MOST_WRITTEN, MOST_READ = 65536, 131072
 PAGE = 4096
-FOLDER, FILE = 4, 8
+PIPE, CHARACTER, FOLDER, BLOCK, FILE, LINK, SOCKET = 1, 2, 4, 6, 8, 10, 12  # kinds of names in a page
 SET_MODE, SET_UID, SET_GID, SET_SIZE, SET_ATIME, SET_MTIME = (1 << bit for bit in range(6))
 SET_HANDLE, SET_ATIME_NOW, SET_MTIME_NOW = 1 << 6, 1 << 7, 1 << 8
 NOW = "now"
@@ -56,7 +56,7 @@ ENTRY_LEN = ENTRY_OUT.size + ATTR.size
 # --- What replies say ---
 
 class Attr(NamedTuple):
-    """What is known of a file or a folder; times in nanoseconds since 1970. With `--attributes fixed` the times are 0, the number `ino` is the node's,
+    """What is known of a file or a folder, or with `--kinds all` of a link or whatever else; times in nanoseconds since 1970. With `--attributes fixed` the times are 0, the number `ino` is the node's,
     and `mode`, `uid` and `gid` are the server's settings."""
     ino: int
     size: int
@@ -69,6 +69,7 @@ class Attr(NamedTuple):
     atime: int
     mtime: int
     ctime: int
+    rdev: int = 0
 
 
 class Entry(NamedTuple):
@@ -79,7 +80,7 @@ class Entry(NamedTuple):
 
 
 class Dirent(NamedTuple):
-    """A name of a page, the index of the next one, and FOLDER or FILE. Of READDIRPLUS also its node, or 0 and None where none was given."""
+    """A name of a page, the index of the next one, and its kind, as FOLDER or FILE. Of READDIRPLUS also its node, or 0 and None where none was given."""
     name: str
     following: int
     kind: int
@@ -180,6 +181,15 @@ def setattr_parts(unique, node, handle=None, **parts):
 def mkdir(unique, parent, name, mode=0, umask=0):
     """With `--attributes host` the folder gets the bits of the mode that are not in the umask; else the server's own mask decides."""
     return request(MKDIR, unique, parent, struct.pack("<II", mode, umask) + name_bytes(name))
+
+
+def symlink(unique, parent, name, text):
+    """A link with this text, which the server never follows."""
+    return request(SYMLINK, unique, parent, name_bytes(name) + name_bytes(text))
+
+
+def readlink(unique, node):
+    return request(READLINK, unique, node)
 
 
 def unlink(unique, parent, name):
@@ -297,10 +307,10 @@ def written_of(body):
 
 
 def attr_at(body, at):
-    ino, size, blocks, *told, mode, nlink, uid, gid, _, blksize, _ = ATTR.unpack_from(body, at)
+    ino, size, blocks, *told, mode, nlink, uid, gid, rdev, blksize, _ = ATTR.unpack_from(body, at)
     # Seconds may be before 1970: in two's complement.
     times = [((seconds + 2**63) % 2**64 - 2**63) * 10**9 + nanos for seconds, nanos in zip(told[:3], told[3:])]
-    return Attr(ino, size, blocks, mode, nlink, uid, gid, blksize, *times)
+    return Attr(ino, size, blocks, mode, nlink, uid, gid, blksize, *times, rdev)
 
 
 def attr_of(body):
@@ -309,7 +319,7 @@ def attr_of(body):
 
 
 def entry_of(body, at=0):
-    """The entry that LOOKUP, MKDIR and CREATE are answered."""
+    """The entry that LOOKUP, MKDIR, SYMLINK and CREATE are answered."""
     node, generation = struct.unpack_from("<QQ", body, at)
     return Entry(node, generation, attr_at(body, at + ENTRY_OUT.size))
 
@@ -461,6 +471,14 @@ class Client:
 
     def mkdir(self, parent, name, mode=0, umask=0):
         return entry_of(self.ask(mkdir(self.number(), parent, name, mode, umask), name))
+
+    def symlink(self, parent, name, text):
+        """Where the server shows links: makes one with this text."""
+        return entry_of(self.ask(symlink(self.number(), parent, name, text), name))
+
+    def readlink(self, node):
+        """The text of a link, as bytes."""
+        return self.ask(readlink(self.number(), node))
 
     def unlink(self, parent, name):
         self.ask(unlink(self.number(), parent, name), name)

@@ -1,7 +1,7 @@
 """What any stream of bytes must be answered: cuts it into frames, and says of each whether a reply is due, and of what form."""
 import struct
 
-LOOKUP, FORGET, GETATTR, SETATTR, MKDIR, UNLINK, RMDIR, RENAME, OPEN, READ, WRITE, STATFS = 1, 2, 3, 4, 9, 10, 11, 12, 14, 15, 16, 17
+LOOKUP, FORGET, GETATTR, SETATTR, READLINK, SYMLINK, MKDIR, UNLINK, RMDIR, RENAME, OPEN, READ, WRITE, STATFS = 1, 2, 3, 4, 5, 6, 9, 10, 11, 12, 14, 15, 16, 17
 RELEASE, FSYNC, FLUSH, INIT, OPENDIR, READDIR, RELEASEDIR, FSYNCDIR, CREATE, INTERRUPT = 18, 20, 25, 26, 27, 28, 29, 30, 35, 36
 DESTROY, BATCH_FORGET, READDIRPLUS, RENAME2 = 38, 42, 44, 45
 EPERM, ENOENT, EIO, EBADF, EINVAL, ENAMETOOLONG, ENOSYS, EPROTO = 1, 2, 5, 9, 22, 36, 38, 71
@@ -13,8 +13,12 @@ FIXED = {GETATTR: 16, SETATTR: 88, OPEN: 8, READ: 40, STATFS: 0, RELEASE: 24, FS
          RELEASEDIR: 24, FSYNCDIR: 16, DESTROY: 0, READDIRPLUS: 40}
 NAMED = {LOOKUP: (0, 1), MKDIR: (8, 1), UNLINK: (0, 1), RMDIR: (0, 1), RENAME: (8, 2), CREATE: (16, 1), RENAME2: (16, 2)}
 # bodies of replies that tell of success, where they have one length
-ANSWERED = {LOOKUP: 128, GETATTR: 104, SETATTR: 104, MKDIR: 128, UNLINK: 0, RMDIR: 0, RENAME: 0, RENAME2: 0, OPEN: 16, WRITE: 8, STATFS: 80,
+ANSWERED = {LOOKUP: 128, GETATTR: 104, SETATTR: 104, SYMLINK: 128, MKDIR: 128, UNLINK: 0, RMDIR: 0, RENAME: 0, RENAME2: 0, OPEN: 16, WRITE: 8, STATFS: 80,
             RELEASE: 0, FSYNC: 0, FLUSH: 0, INIT: 64, OPENDIR: 16, RELEASEDIR: 0, FSYNCDIR: 0, CREATE: 144, DESTROY: 0}
+# what is served where links are shown, and the modes and the kinds of names that come where they are not
+OF_LINKS = {READLINK, SYMLINK}
+PLAIN_MODES, PLAIN_KINDS = {0o40755, 0o100644}, {4, 8}
+ALL_MODES, ALL_KINDS = {0o40755, 0o100644, 0o120777, 0o10644, 0o140644, 0o20644, 0o60644}, {1, 2, 4, 6, 8, 10, 12}
 # what else is refused than by the bytes alone
 ONLY_ERRORS = {STATFS: set(), FLUSH: {EBADF}, RELEASEDIR: {EBADF}, FSYNCDIR: {EBADF}}
 
@@ -54,8 +58,22 @@ def fault_of_names(opcode, body):
     return EINVAL if opcode == CREATE and body[0] & 3 == 3 else 0
 
 
-def fault_of(opcode, body):
+def fault_of_link(body):
+    """The error of a SYMLINK: a name, and the link's text, each with its zero byte."""
+    if not body.endswith(b"\0") or body.count(b"\0") != 2:
+        return EINVAL
+    name, text = body[:-1].split(b"\0")
+    if fault_of_name(name):
+        return fault_of_name(name)
+    if name.startswith(b".fuse_hidden"):
+        return EPERM
+    return ENOENT if not text else ENAMETOOLONG if len(text) > 4095 else 0
+
+
+def fault_of(opcode, body, links=False):
     """The error that the bytes of a request have by themselves, or 0; an INIT's and a silent one's are told elsewhere."""
+    if opcode in OF_LINKS:
+        return ENOSYS if not links else fault_of_link(body) if opcode == SYMLINK else 0
     if opcode in NAMED:
         return fault_of_names(opcode, body)
     if opcode == WRITE:
@@ -75,8 +93,8 @@ def fault_of(opcode, body):
 class Due:
     """A reply that is due: the error that it must have, or None where the server decides."""
 
-    def __init__(self, opcode, unique, node, error, body):
-        self.opcode, self.unique, self.node, self.error, self.body = opcode, unique, node, error, body
+    def __init__(self, opcode, unique, node, error, body, links=False):
+        self.opcode, self.unique, self.node, self.error, self.body, self.links = opcode, unique, node, error, body, links
 
     def wrong(self, error, body):
         """What is wrong about a reply, or None."""
@@ -94,21 +112,23 @@ class Due:
             return f"a body of {len(body)} bytes"
         if self.opcode == WRITE and (struct.unpack("<I", body[:4])[0] > len(self.body) - 40 or any(body[4:])):
             return "more written than was sent"
-        if self.opcode in (LOOKUP, MKDIR, CREATE) and struct.unpack_from("<Q", body)[0] < 2:
+        if self.opcode in (LOOKUP, SYMLINK, MKDIR, CREATE) and struct.unpack_from("<Q", body)[0] < 2:
             return "an entry without a node"
-        at = {LOOKUP: 40, MKDIR: 40, CREATE: 40, GETATTR: 16, SETATTR: 16}.get(self.opcode)
+        at = {LOOKUP: 40, SYMLINK: 40, MKDIR: 40, CREATE: 40, GETATTR: 16, SETATTR: 16}.get(self.opcode)
         mode = struct.unpack_from("<I", body, at + 60)[0] if at else None
-        return f"a mode of {mode:o}" if mode not in (None, 0o40755, 0o100644) else None
+        return f"a mode of {mode:o}" if mode is not None and mode not in (ALL_MODES if self.links else PLAIN_MODES) else None
 
     def wrong_bytes(self, body):
+        if self.opcode == READLINK:
+            return None if 0 < len(body) < 4096 else f"a link's text of {len(body)} bytes"
         size, = struct.unpack_from("<I", self.body, 16)
         if len(body) > size:
             return "more bytes than were asked for"
-        return None if self.opcode == READ else wrong_page(body, 128 if self.opcode == READDIRPLUS else 0)
+        return None if self.opcode == READ else wrong_page(body, 128 if self.opcode == READDIRPLUS else 0, ALL_KINDS if self.links else PLAIN_KINDS)
 
 
-def wrong_page(body, skip):
-    """What is wrong about a page of a folder, or None; that many bytes stand before each of its entries."""
+def wrong_page(body, skip, kinds):
+    """What is wrong about a page of a folder, or None; that many bytes stand before each of its entries, whose kinds are these."""
     at = 0
     while at < len(body):
         if at + skip + 24 > len(body):
@@ -116,7 +136,7 @@ def wrong_page(body, skip):
         length, kind = struct.unpack_from("<II", body, at + skip + 16)
         name = body[at + skip + 24:at + skip + 24 + length]
         at += (skip + 24 + length + 7) // 8 * 8
-        if at > len(body) or kind not in (4, 8):
+        if at > len(body) or kind not in kinds:
             return "an entry of a page that is cut, or of a kind that is none"
         if name not in (b".", b"..") and (fault_of_name(name) or name.startswith(b".fuse_hidden")):
             return f"the name {name!r} in a page"
@@ -124,9 +144,10 @@ def wrong_page(body, skip):
 
 
 class Model:
-    """What a stream was and what is due for it. `ended` is None, "destroyed", or the length that no frame has."""
+    """What a stream was and what is due for it; whether links are shown. `ended` is None, "destroyed", or the length that no frame has."""
 
-    def __init__(self):
+    def __init__(self, links=False):
+        self.links = links
         self.rest, self.due, self.agreed, self.ended, self.frames = b"", [], False, None, 0
 
     def feed(self, piece):
@@ -147,12 +168,12 @@ class Model:
         if opcode in SILENT:
             return
         if opcode == INIT:
-            self.due.append(Due(opcode, unique, node, self.offer(body), body))
+            self.due.append(Due(opcode, unique, node, self.offer(body), body, self.links))
             return
-        error = fault_of(opcode, body) if self.agreed else EIO
+        error = fault_of(opcode, body, self.links) if self.agreed else EIO
         if opcode == DESTROY and not error:
             self.ended = "destroyed"
-        self.due.append(Due(opcode, unique, node, 0 if opcode in (DESTROY, STATFS) and not error else error or None, body))
+        self.due.append(Due(opcode, unique, node, 0 if opcode in (DESTROY, STATFS) and not error else error or None, body, self.links))
 
     def offer(self, body):
         """The error of an INIT."""
