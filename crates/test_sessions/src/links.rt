@@ -14,6 +14,7 @@ use std::marker::Brand;
 use std::random::RandomSource;
 use std::sync::Wait;
 use std::test::Fail;
+use wire::Operation;
 use wire::Operation::{
     GetAttr, Lookup, MakeLink, OpenDir, ReadDir, ReadDirPlus, ReadLink, SetAttr,
 };
@@ -159,32 +160,39 @@ fn made_and_read(rt: HostRuntime) -> Result<(), Fail> {
     Ok(())
 }
 
-/// Makes a link with a text of that many bytes in a session of its own.
-fn tell_text<H: Wait + RandomSource, T: Ledgers>(
+/// A story of these requests and replies.
+fn tell_asks<'a, H: Wait + RandomSource, T: Ledgers>(
     rt: &H,
     alloc: Global,
     blanks: Blanks,
-    len: usize,
-    says: Says<'static>,
+    asks: &'a [(u64, Operation<'a>)],
+    replies: &'a [Says<'a>],
 ) -> Result<(), Fail>
     requires names { blanks ≡ T.names }
     requires shares { T.names.parts ≡ 1 }
 {
-    let mut text = Vec::new(alloc);
-    text.resize(len, b'x')?;
     let story = Story {
         says: "a long text",
-        asks: &[(
-            1,
-            MakeLink {
-                name: "l",
-                text: &text,
-            },
-        )],
-        replies: &[says],
+        asks,
+        replies,
         ..SHOWN
     };
     tell::<H, T>(rt, alloc, blanks, &story)
+}
+
+/// Makes a link with that text in a session of its own.
+fn tell_text<H: Wait + RandomSource, T: Ledgers>(
+    rt: &H,
+    alloc: Global,
+    blanks: Blanks,
+    text: &[u8],
+    says: Says<'_>,
+) -> Result<(), Fail>
+    requires names { blanks ≡ T.names }
+    requires shares { T.names.parts ≡ 1 }
+{
+    let asks = [(1, MakeLink { name: "l", text })];
+    tell_asks::<H, T>(rt, alloc, blanks, &asks, &[says])
 }
 
 // A link has 4,095 bytes at most, as on Linux.
@@ -195,7 +203,9 @@ fn long_texts(rt: HostRuntime) -> Result<(), Fail> {
         (4096, Failed(ENAMETOOLONG)),
         (65536, Failed(ENAMETOOLONG)),
     ] {
-        tell_text::<HostRuntime, Brand>(&rt, rt.alloc(), Blanks::new(1), len, says)?;
+        let mut text = Vec::new(rt.alloc());
+        text.resize(len, b'x')?;
+        tell_text::<HostRuntime, Brand>(&rt, rt.alloc(), Blanks::new(1), &text, says)?;
     }
     Ok(())
 }
