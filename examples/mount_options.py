@@ -16,11 +16,11 @@ WITHOUT = {"rw": "ro", "suid": "nosuid", "dev": "nodev", "exec": "noexec", "asyn
 # What the kernel's FUSE itself knows, what the server is told by words of its own, and what mount(8) has worked off before it calls.
 KERNELS = {"allow_other", "default_permissions", "max_read", "blksize"}
 SERVERS = {"kinds", "attributes", "workers", "uid", "gid", "nodes", "files", "requests", "counts", "postings"}
-OWN = {"single", "nosingle", "server"}
+OWN = {"single", "nosingle", "server", "log"}
 PASSED_OVER = {"defaults", "auto", "noauto", "user", "nouser", "users", "owner", "noowner", "group", "nogroup", "_netdev", "nofail", "comment", "silent", "loud"}
 
 # The words of a call: a helper of mount(8) is told to let unknown options pass (-s), to do nothing (-f), and what is of no use here.
-WORDS = ("sfnvo:t:N:",) if HELPER else ("sbho:", ["server=", "kinds=", "attributes=", "workers=", "single", "no-single", "allow-other", "background", "help"])
+WORDS = ("sfnvo:t:N:",) if HELPER else ("sbho:", ["server=", "log=", "kinds=", "attributes=", "workers=", "single", "no-single", "allow-other", "background", "help"])
 OPTION_OF = {"-s": "single", "--single": "single", "--no-single": "nosingle", "--allow-other": "allow_other"}
 
 
@@ -66,7 +66,7 @@ class Options:
             elif name in SERVERS:
                 self.of_server[name] = value
             elif name in OWN:
-                self.own.update({"server": value} if name == "server" else {"single": name == "single"})
+                self.own.update({name: value} if name in ("server", "log") else {"single": name == "single"})
             elif not (name in PASSED_OVER or name.startswith("x-") or unknown_too):
                 raise Failed(f"the option {word} is unknown")
 
@@ -79,7 +79,8 @@ class Options:
             told = {"uid": os.getuid(), "gid": os.getgid(), **told}
         # A server that is not root may write a file that was made read-only in the thread that made it alone.
         single = self.own.get("single", os.geteuid() != 0 and "workers" not in told)
-        return [program, "device", "--root", root, *(word for name, value in told.items() for word in ("--" + name, str(value))), *["-s"] * single]
+        logged = [os.path.join(os.path.dirname(os.path.realpath(__file__)), "log"), os.path.realpath(self.own["log"])] if self.own.get("log") else []
+        return [*logged, program, "device", "--root", root, *(word for name, value in told.items() for word in ("--" + name, str(value))), *["-s"] * single]
 
 
 def look_at(root, mountpoint):

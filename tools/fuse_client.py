@@ -1,7 +1,7 @@
 """A client of the protocol that mirrord serves, FUSE 7.31, for tests and bridges; it needs Python 3 and nothing else.
 
 It is no mount, and nothing to build a fast client on: one request is under way at a time, nothing is kept, and of a reply it checks the number and no more. What it builds
-and reads is whole frames, so a bridge can look at each and pass it on. `examples/client`, `examples/fetch` and `examples/read-only` start from it. It has three layers:
+and reads is whole frames, so a bridge can look at each and pass it on. `examples/client`, `examples/fetch`, `examples/read-only` and `examples/log` start from it. It has three layers:
 
 Frames     `lookup(unique, parent, name)` and its like build the bytes of one request. They send nothing.
 Bodies     `entry_of(body)` and its like read the body of one reply.

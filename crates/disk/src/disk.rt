@@ -51,6 +51,12 @@ pub trait Disk {
     /// A folder was moved, or may have been, by a call of ours. A folder that was removed is counted without that.
     fn note_move(&self);
 
+    /// Whether others in this process serve the same folder, or may come to, and hear of the folders that are removed or moved.
+    fn is_shared(&self) -> bool;
+
+    /// Whether a look shows the kind of whatever stands there, so that no other call meets what a look would have hidden.
+    fn shows_all(&self) -> bool;
+
     /// Whether the system keeps files open by itself, so that opening one again costs no call.
     fn keeps_files(&self) -> bool;
 

@@ -108,6 +108,16 @@ impl MemoryDisk {
         self.schedule.set_keeps_files(keeps_files);
     }
 
+    /// Sets whether others serve the same folder.
+    pub fn set_is_shared(&self, is_shared: bool) {
+        self.schedule.set_is_shared(is_shared);
+    }
+
+    /// Sets whether looks are said to show all kinds.
+    pub fn set_shows_all(&self, shows_all: bool) {
+        self.schedule.set_shows_all(shows_all);
+    }
+
     /// Counts a call that changes nothing: the path of the name in an open folder. The error says nothing.
     pub(crate) fn reach(&self, dir: &MemoryHandle, name: &Name) -> Result<Path, DiskError>
         ensures path { IfOk result (λ path. (up : List (List ℕ)) → path_of self.now.standing dir.now.number ≡ Some up → path ≡ up ++ name.now ∷ []) }

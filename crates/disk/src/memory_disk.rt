@@ -48,6 +48,14 @@ impl Disk for MemoryDisk {
 
     fn note_move(&self) {}
 
+    fn is_shared(&self) -> bool {
+        self.schedule.is_shared()
+    }
+
+    fn shows_all(&self) -> bool {
+        self.schedule.shows_all()
+    }
+
     fn keeps_files(&self) -> bool {
         self.schedule.keeps_files()
     }

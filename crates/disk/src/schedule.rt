@@ -25,10 +25,12 @@ pub struct Schedule {
     now: Cell<u64>,
     changes: Cell<u64>,
     keeps_files: Cell<bool>,
+    is_shared: Cell<bool>,
+    shows_all: Cell<bool>,
 }
 
 impl Schedule {
-    /// No call fails, each reads and writes all that it can, and all numbers are 0. It takes no memory.
+    /// No call fails, each reads and writes all that it can, all numbers are 0, and all kinds are shown. It takes no memory.
     pub fn new(alloc: Global) -> Schedule {
         Schedule {
             plans: RefCell::new(Vec::new(alloc)),
@@ -37,6 +39,8 @@ impl Schedule {
             now: Cell::new(0),
             changes: Cell::new(0),
             keeps_files: Cell::new(false),
+            is_shared: Cell::new(false),
+            shows_all: Cell::new(true),
         }
     }
 
@@ -116,6 +120,22 @@ impl Schedule {
 
     pub fn set_keeps_files(&self, keeps_files: bool) {
         self.keeps_files.set(keeps_files);
+    }
+
+    pub fn is_shared(&self) -> bool {
+        self.is_shared.get()
+    }
+
+    pub fn set_is_shared(&self, is_shared: bool) {
+        self.is_shared.set(is_shared);
+    }
+
+    pub fn shows_all(&self) -> bool {
+        self.shows_all.get()
+    }
+
+    pub fn set_shows_all(&self, shows_all: bool) {
+        self.shows_all.set(shows_all);
     }
 }
 

@@ -23,6 +23,10 @@ pub trait System {
 
     fn note_move(&self);
 
+    fn is_shared(&self) -> bool;
+
+    fn shows_all(&self) -> bool;
+
     fn keeps_files(&self) -> bool;
 
     fn find_open(&self, dir: &Self::Handle, name: &Name, access: Access) -> Option<Self::Handle>

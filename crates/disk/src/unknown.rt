@@ -77,6 +77,14 @@ impl<S: System + Drop> Disk for Unknown<S> {
         self.system.note_move();
     }
 
+    fn is_shared(&self) -> bool {
+        self.system.is_shared()
+    }
+
+    fn shows_all(&self) -> bool {
+        self.system.shows_all()
+    }
+
     fn keeps_files(&self) -> bool {
         self.system.keeps_files()
     }

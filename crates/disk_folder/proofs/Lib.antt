@@ -12,6 +12,8 @@ pub mod LinkEnds
 pub mod RemoveEnds
 pub mod MoveEnds
 pub mod NewEnds
+pub mod UnseenEnds
 pub mod Witnesses
+pub mod MoveWitnesses
 pub mod CallEnds
 pub mod AttributeEnds

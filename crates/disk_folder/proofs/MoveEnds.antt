@@ -1,6 +1,6 @@
 -- How a rename ends, and what is open then.
 use Rattle.std.specs.Prelude.{IsTrue}
-use Rattle.std.proofs.Common.{ℤ, Result, Ok, Err, IfOk, ◌≡◌, ◌&&◌, Bool, true, false, [], ◌∷◌, ◌++◌, Option, Some, None, IsSome, length, drop, refl, sym, ap, ◌∙◌, subst, inl, inr}
+use Rattle.std.proofs.Common.{ℤ, Result, Ok, Err, IfOk, OnOk, ◌≡◌, ◌&&◌, Bool, true, false, [], ◌∷◌, ◌++◌, Option, Some, None, IsSome, length, drop, refl, sym, ap, ◌∙◌, subst, inl, inr}
 use Rattle.std.specs.Option.{option_map}
 use Rattle.std.proofs.lemmas.Bool.{cond-true, cond-false, true≢false}
 use Rattle.paths.specs.Prefixes.{Name, Names, is_name, is_prefix}
@@ -121,7 +121,7 @@ refuse_room at s t errno tree low_s low_t some other refuses =
     inr (low_s, inr (low_t, inr (leads at s tree some, inr (some, subst (λ (b : Bool). Refuses at (unless b (room_tests s t)) errno) (sym other) refuses))))
 
 -- it is moved
-moved_done : {H : Type 0} (at at' : Tree) (olds news : H → Names → Type 0) (s t : Names) → IsTree at → (s ≡ [] → ⊥) → (t ≡ [] → ⊥) → Resolves at t → AreApart s t → Moves at olds s t at' news → Ends at (AskRename s t) (Ok Done) at'
+pub moved_done : {H : Type 0} (at at' : Tree) (olds news : H → Names → Type 0) (s t : Names) → IsTree at → (s ≡ [] → ⊥) → (t ≡ [] → ⊥) → Resolves at t → AreApart s t → Moves at olds s t at' news → Ends at (AskRename s t) (Ok Done) at'
 moved_done at at' olds news s t tree low_s low_t down apart moves =
     let other = is_path-no s t (other_path s t apart.not_into) in
     let room : PassesAll at (room_tests s t) = (apart.not_into, (apart.not_over, (down, (moves.no_other_on_folder, (moves.no_folder_on_other, (moves.bare, tt)))))) in
@@ -196,6 +196,11 @@ entry_keeps old new entry path keeps it = record { up = it.up; whole = it.whole;
 
 pub stands_keeps : {H : Type 0} (at : Tree) (stands : H → Names → Type 0) (old new : OpenCache H) (entry : Entry H) (path : Names) → KeepsAll old new → StandsIn at stands old entry path → StandsIn at stands new entry path
 stands_keeps at stands old new entry path keeps it = record { up = it.up; whole = it.whole; folder = folder_keeps_all at stands old new entry.folder it.up keeps it.folder }
+
+-- folders lead to t, in a folder
+pub target_led : (at : Tree) (t up : Names) (name : Name) (result : Result (Unit {0}) Trouble) → IsTree at → t ≡ up ++ name ∷ [] → at up ≡ Some Folder → OnOk result (Resolves at t)
+target_led at t up name (Err trouble) tree whole folder = tt
+target_led at t up name (Ok done) tree whole folder = subst (λ (q : Names). Resolves at q) (sym whole) (leads_below at up name tree folder)
 
 -- what a look tells of t, in a folder
 pub target_told : (at : Tree) (t up : Names) (name : Name) (result : Result Bool Trouble) → IsTree at → t ≡ up ++ name ∷ [] → at up ≡ Some Folder → IfOk result (IsTold at (up ++ name ∷ [])) → IfOk result (λ taken. Resolves at t × IsTold at t taken)

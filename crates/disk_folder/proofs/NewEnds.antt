@@ -44,7 +44,7 @@ new_taken at s t tree apart some down there =
     (refuse_new at s t (reason_errno Taken) tree (apart_low s t apart.not_into) (apart_low t s apart.not_over) some (inr (is_path-no s t (other_path s t apart.not_into), inr (apart.not_into, inr (apart.not_over, inr (down, inl (there, refl)))))), refl)
 
 -- it is moved
-new_done : {H : Type 0} (at at' : Tree) (olds news : H → Names → Type 0) (s t : Names) → IsTree at → Resolves at t → AreApart s t → at t ≡ None → Moves at olds s t at' news → Ends at (AskRenameNew s t) (Ok Done) at'
+pub new_done : {H : Type 0} (at at' : Tree) (olds news : H → Names → Type 0) (s t : Names) → IsTree at → Resolves at t → AreApart s t → at t ≡ None → Moves at olds s t at' news → Ends at (AskRenameNew s t) (Ok Done) at'
 new_done at at' olds news s t tree down apart free moves =
     ((apart_low s t apart.not_into, (apart_low t s apart.not_over, (leads at s tree moves.source, (moves.source, (is_path-no s t (other_path s t apart.not_into), (apart.not_into, (apart.not_over, (down, (free, tt))))))))), (refl, moves.tree))
 

@@ -1,5 +1,5 @@
 -- How a call on a folder ended, and what stands below the folder then.
-use Rattle.std.specs.Prelude.{◌≡◌, List, None, Result, Ok, Err}
+use Rattle.std.specs.Prelude.{◌≡◌, List, Option, Some, None, Result, Ok, Err}
 use Rattle.backing.specs.declared.call.Answer.{Answer}
 use Rattle.backing.specs.Tree.{Tree}
 use Rattle.backing.specs.Calls.{Asked, Test, tests_of, PassesAll, Refuses, Does, Works}
@@ -19,6 +19,11 @@ abbrev pub Ends : Tree → Asked → Result Answer Trouble → Tree → Type 0
 Ends old call (Ok answer) new = PassesAll old (tests_of None call) × Does old call answer new
 Ends old call (Err (Refused reason)) new = Refuses old (tests_of None call) (reason_errno reason) × (new ≡ old)
 Ends old call (Err (Failed errno)) new = Fails old call new
+
+-- it ended so; or nothing is answered, and nothing is changed
+abbrev pub EndsOrStays : Tree → Asked → Option (Result Answer Trouble) → Tree → Type 0
+EndsOrStays old call (Some result) new = Ends old call result new
+EndsOrStays old call None new = new ≡ old
 
 -- the tree refuses these tests, or the system failed
 abbrev pub IsRefused : Tree → List Test → Trouble → Type 0

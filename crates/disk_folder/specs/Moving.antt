@@ -1,14 +1,17 @@
 -- What is kept, as names are moved.
-use Rattle.std.specs.Prelude.{◌≡◌, ◌⊎◌, ◌++◌, Bool, true, false, Some, None, IsSome}
+use Rattle.std.specs.Prelude.{◌≡◌, ◌⊎◌, ◌++◌, Bool, true, false, Option, Some, None, IsSome, Result, Ok, Err}
 use Rattle.paths.specs.Prefixes.{Names, is_prefix}
+use Rattle.backing.specs.declared.call.Answer.{Answer}
+use Rattle.backing.specs.declared.call.Answer.TheVariants.{Done}
 use Rattle.backing.specs.Tree.{Tree}
+use Rattle.disk.specs.Answers.{Moves, Stays}
 use Rattle.disk.specs.declared.error.DiskError.{DiskError}
-use Rattle.disk.specs.declared.error.DiskError.TheVariants.{NotFolder, IsFolder, NotEmpty}
+use Rattle.disk.specs.declared.error.DiskError.TheVariants.{NotFolder, IsFolder, NotEmpty, Failed as Lost}
 use Rattle.path_cache.specs.Cache.{kept_at}
 use Rattle.disk_folder.specs.declared.opened.Open.{Open}
 use Rattle.disk_folder.specs.declared.open_cache.OpenCache.{OpenCache}
 use Rattle.disk_folder.specs.declared.trouble.Trouble.{Trouble}
-use Rattle.disk_folder.specs.declared.trouble.Trouble.TheVariants.{Refused}
+use Rattle.disk_folder.specs.declared.trouble.Trouble.TheVariants.{Refused, Failed}
 use Rattle.disk_folder.specs.declared.trouble.Reason.TheVariants.{NoFolder, Folder as IsOne}
 use Rattle.disk_folder.specs.Changes.{IsFull}
 use Rattle.disk_folder.specs.Troubles.{IsFailure}
@@ -28,3 +31,15 @@ IsWhyNotMoved IsFolder trouble = trouble ≡ Refused IsOne
 IsWhyNotMoved NotFolder trouble = trouble ≡ Refused NoFolder
 IsWhyNotMoved NotEmpty trouble = IsFull trouble
 IsWhyNotMoved error trouble = IsFailure trouble
+
+-- what a move told: it is done; or the system failed, which may have done nothing, or all; or nothing is told, and nothing is changed
+abbrev pub MovesOrStays : {H : Type 0} → Tree → (H → Names → Type 0) → Names → Names → Option (Result Answer Trouble) → Tree → (H → Names → Type 0) → Type 0
+MovesOrStays at old s t (Some (Ok answer)) at' new = (answer ≡ Done) × Moves at old s t at' new
+MovesOrStays at old s t (Some (Err (Failed errno))) at' new = Stays at old at' new ⊎ Moves at old s t at' new
+MovesOrStays at old s t (Some (Err (Refused reason))) at' new = ⊥
+MovesOrStays at old s t None at' new = Stays at old at' new
+
+-- the failure of a call that may have been done, by the system's error
+abbrev pub IsLost : DiskError → Option Trouble → Type 0
+IsLost (Lost errno) told = told ≡ Some (Failed errno)
+IsLost error told = told ≡ None

@@ -1,4 +1,4 @@
-//! A folder of a disk, as a directory whose tree is known: each call of the system is below an open directory, by one name.
+//! A folder of a disk, as a directory whose tree is known where the disk is honest: each call of the system is below an open directory, by one name.
 #![tactic(auto)]
 
 mod attributes;
@@ -8,12 +8,14 @@ mod explained;
 mod files;
 mod finding;
 mod folder;
+mod following;
 mod links;
 mod listed;
 mod listing;
 mod look;
 mod making;
 mod moving;
+mod moving_new;
 mod open_cache;
 mod opened;
 mod parts;
@@ -21,6 +23,7 @@ mod removing;
 mod renaming;
 mod stat;
 mod trouble;
+mod unseen;
 mod walk;
 
 pub use folder::Folder;

@@ -31,7 +31,7 @@ fn why_not_removed(error: DiskError) -> Trouble
     }
 }
 
-/// Removes what a look has shown, which is no folder. A file is closed.
+/// Removes what is no folder from an open folder. A file is closed.
 fn remove_file<D: Disk>(
     disk: &mut D,
     cache: &mut OpenCache<D::Handle>,
@@ -50,7 +50,7 @@ fn remove_file<D: Disk>(
     }
 }
 
-/// Removes what is no folder from an open folder, behind a look: what is hidden is not removed.
+/// The same, behind a look where not all kinds are shown: what is hidden is not removed.
 fn remove_in<D: Disk>(
     disk: &mut D,
     cache: &mut OpenCache<D::Handle>,
@@ -61,6 +61,9 @@ fn remove_in<D: Disk>(
     ensures ends { (up : Names) → IsFolderAt (D.tree disk.old) (D.stands disk.old) cache.old entry.now.folder up → Ends (D.tree disk.old) (AskRemove (up ++ entry.now.name.now ∷ [])) result (D.tree disk.new) }
     ensures stand { (up : Names) → IsFolderAt (D.tree disk.old) (D.stands disk.old) cache.old entry.now.folder up → AllStand (D.tree disk.new) (D.stands disk.new) cache.new }
 {
+    if disk.shows_all() {
+        return remove_file(disk, cache, entry);
+    }
     match look_at(disk, cache, entry) {
         Ok(seen) => match seen.kind {
             Kind::Folder => Err(Trouble::Refused(Reason::Folder)),

@@ -1,6 +1,6 @@
 //! The two folders of a rename.
 
-ghost use Rattle.std.specs.Prelude.{◌≡◌, ◌++◌, ◌∷◌, [], IfOk, IfErr};
+ghost use Rattle.std.specs.Prelude.{◌≡◌, ◌++◌, ◌∷◌, [], IfOk, IfErr, OnOk};
 ghost use Rattle.paths.specs.Prefixes.{Names};
 ghost use Rattle.backing.specs.Tree.{Resolves};
 ghost use Rattle.disk_folder.specs.Moving.{IsTold, IsWhyNotMoved};
@@ -67,6 +67,40 @@ pub fn see_target<D: Disk>(
 {
     match go_above(disk, cache, to) {
         Ok(target) => is_taken(disk, cache, &target),
+        Err(trouble) => Err(trouble),
+    }
+}
+
+/// What is hidden at the name makes the call fail: one look, where not all kinds are shown.
+fn expect_shown<D: Disk>(
+    disk: &D,
+    cache: &OpenCache<D::Handle>,
+    entry: &Entry<'_, D::Handle>,
+) -> Result<(), Trouble>
+    requires { IsEntry cache.now entry.now }
+    ensures { IfErr result IsFailure }
+{
+    if disk.shows_all() {
+        return Ok(());
+    }
+    match is_taken(disk, cache, entry) {
+        Ok(_) => Ok(()),
+        Err(trouble) => Err(trouble),
+    }
+}
+
+/// Folders lead to the path that is renamed to, and nothing is hidden there.
+pub fn expect_target<D: Disk>(
+    disk: &D,
+    cache: &mut OpenCache<D::Handle>,
+    to: &Path,
+) -> Result<(), Trouble>
+    ensures ok { AllStand (D.tree disk.now) (D.stands disk.now) cache.old → OnOk result (Resolves (D.tree disk.now) to.now) }
+    ensures err { AllStand (D.tree disk.now) (D.stands disk.now) cache.old → IfErr result (IsStopped (D.tree disk.now) to.now) }
+    ensures stand { AllStand (D.tree disk.now) (D.stands disk.now) cache.old → AllStand (D.tree disk.now) (D.stands disk.now) cache.new }
+{
+    match go_above(disk, cache, to) {
+        Ok(target) => expect_shown(disk, cache, &target),
         Err(trouble) => Err(trouble),
     }
 }

@@ -1,8 +1,8 @@
 -- A receive into a part of a buffer.
-use Rattle.std.proofs.Common.{◌≡◌, ℕ, ◌+◌, ◌≤◌, ◌-◌, List, ◌++◌, length, take, drop, refl, ap, ◌∙◌, length-append, arith}
+use Rattle.std.proofs.Common.{◌≡◌, ℕ, ◌≤◌, ◌-◌, List, ◌++◌, length, take, drop, refl, ap, ◌∙◌, length-append, arith}
 use Rattle.std.proofs.lemmas.List.{take_at, drop_at, length-take-le, take-append-le}
 use borrow.Rule.Slice.PartMut.{put_mid, post_of}
-use Rattle.engine.specs.Links.{Heard, Piece, IsWithin, heard}
+use Rattle.engine.specs.Links.{Piece, IsWithin, heard}
 use Rattle.engine.specs.declared.links.Received.{Received}
 use Rattle.engine.specs.declared.links.Received.TheVariants as received
 

@@ -100,24 +100,24 @@ module _ {W L C D : Type 0} (rules : Rules W L) (does : Behaviour C D) where
         passes = f.offer;
       }
 
-  pub parted : (frame : List ℕ) (old : Environment (Stand W) L C D) (link : L) (sent : Sent) (destroyed : Bool) (end : Option SessionEnd) → DestroyFrame ≡ class old.at.agreed (opcode_in frame) → HandlesDestroy rules.sends frame old.link sent destroyed link → end ≡ ending (Some sent) destroyed
+  pub parted : (frame : List ℕ) (old : Environment (Stand W) L C D) (link : L) (end : Option SessionEnd) → DestroyFrame ≡ class old.at.agreed (opcode_in frame) → HandlesDestroy rules.sends frame old.link end link
       → IsHandled rules does frame old end (around link old.served old.at)
-  parted frame old link sent destroyed end is (inl w) ends =
-      let turn = record (answering frame None [] w.0.unique Done sent) { destroyed = true } in
+  parted frame old link end is (inl (q, request, sent, offer, ends)) =
+      let turn = record (answering frame None [] q.unique Done sent) { destroyed = true } in
       record {
         turn = turn;
         frame_is = refl;
-        end_is = ends ∙ ap (λ d. ending (Some sent) d) w.3;
-        meets = met_as DestroyFrame frame turn old.at old.at refl is (refl, inl (w.0, w.1, (Done, refl, record { offers = refl; no_call = refl; folders_are = refl; same = refl }), refl));
+        end_is = ends;
+        meets = met_as DestroyFrame frame turn old.at old.at refl is (refl, inl (q, request, (Done, refl, record { offers = refl; no_call = refl; folders_are = refl; same = refl }), refl));
         draws = record { makes = refl; keeps = refl };
-        passes = w.2;
+        passes = offer;
       }
-  parted frame old link sent destroyed end is (inr (f, on)) ends =
+  parted frame old link end is (inr (sent, f, ends)) =
       let turn = answering frame None [] (unique_in frame) (Failed (fault_errno f.fault)) sent in
       record {
         turn = turn;
         frame_is = refl;
-        end_is = ends ∙ ap (λ d. ending (Some sent) d) on;
+        end_is = ends;
         meets = met_as DestroyFrame frame turn old.at old.at refl is (refl, inr (f.fault, f.first, (Failed (fault_errno f.fault), refl, record { offers = refl; no_call = refl; folders_are = refl; same = refl }), refl));
         draws = record { makes = refl; keeps = refl };
         passes = f.offer;

@@ -1,5 +1,5 @@
 -- A property that each step of a table keeps, if it begins with no reserved name, is kept by a whole session.
-use Rattle.std.proofs.Common.{ℕ, ℤ, ◌≡◌, ◌⊎◌, Bool, true, false, List, [], ◌∷◌, Option, Some, None, ap, sym, subst, inl, inr}
+use Rattle.std.proofs.Common.{ℕ, ◌≡◌, Bool, true, false, List, [], ◌∷◌, Option, Some, None, ap, sym, subst, inl, inr}
 use Rattle.table_files.specs.declared.data.OpenFile.{OpenFile}
 use Rattle.table_requests.specs.declared.data.Want.{Want}
 use Rattle.table_hiding.specs.Hiding.{IsUnreserved}
@@ -15,7 +15,6 @@ use Rattle.wire.specs.declared.reply.ReplyBody.{ReplyBody}
 use Rattle.wire.specs.declared.request.Request.{Request}
 use Rattle.terms.specs.declared.settings.Settings.{Settings}
 use Rattle.ops.specs.declared.intents.FolderUse.{FolderUse}
-use Rattle.ops.specs.declared.intents.FolderUse.TheVariants.{ReadNames, ReadEntries, GiveUp, Sync}
 use Rattle.ops.specs.Intents.{Intent, intent}
 use Rattle.ops.specs.Intents as intents
 use Rattle.ops.specs.Pages.{no_page, page_want}
@@ -23,7 +22,7 @@ use Rattle.engine.specs.Chain.{Chain}
 use Rattle.engine.specs.Classes.{class, is_unanswered}
 use Rattle.engine.specs.declared.classes.Class.{Class}
 use Rattle.engine.specs.declared.classes.Class.TheVariants.{Ignored, Unexpected, InitFrame, DestroyFrame, Asking}
-use Rattle.engine.specs.Reference.{Answers, Asks, At, AtBegin, AtListing, AtReply, AtScript, Attempt, Faults, ForgetsAll, HandlesFrame, HandlesInit, IsRefused, IsTurn, Place, Refuses, RunsRequest, Serves, TellsEntries, Turn, WorksOff, attempt, taken_of}
+use Rattle.engine.specs.Reference.{Answers, Asks, At, AtBegin, AtListing, AtReply, AtScript, Attempt, Faults, ForgetsAll, HandlesFrame, HandlesInit, IsRefused, IsTurn, Place, RunsRequest, Serves, TellsEntries, Turn, WorksOff, attempt, taken_of}
 use Rattle.engine.specs.Tables.{Table}
 use Rattle.engine.proofs.Unreserved.{IsPlainIntent, intent_plain, page_plain}
 
@@ -60,27 +59,32 @@ module _ {W : Type 0} (table other : Table W) (P : W → Type 0) (carries : Carr
   runs_carried : (a : Attempt) (old : W) (turn : Turn) (new : W) → IsUnreserved a.want → P old → RunsRequest table settings a old turn new → RunsRequest other settings a old turn new × P new
   runs_carried a old turn new plain p it =
       let b = carries.begins old it.begun a.q.unique a.want (Go it.ticket) plain p it.begins in
-      let f = carries.finishes it.begun it.finished it.ticket.id it.end.outcome it.answer b.1 it.finishes in
-      let s = carries.settles it.finished new it.answer it.put (taken_of turn.refused turn.offer) f.1 it.settles in
+      let e = it.concluded in
+      let f = carries.finishes it.begun e.finished it.ticket.id it.end.outcome e.answer b.1 e.finishes in
+      let s = carries.settles e.finished new e.answer e.put (taken_of turn.refused turn.offer) f.1 e.settles in
       let runs : RunsRequest other settings a old turn new = record {
         ticket = it.ticket;
         begun = it.begun;
         begins = b.0;
         end = it.end;
         script = it.script;
-        answer = it.answer;
-        finished = it.finished;
-        finishes = f.0;
-        known = carries.knows it.answer it.known;
-        put = it.put;
-        first = it.first;
-        stores = it.stores;
-        said = it.said;
-        said_is = it.said_is;
-        offers = it.offers;
-        settles = s.0;
-        last = it.last;
-        gives_up = it.gives_up;
+        more = it.more;
+        concluded = record {
+          answer = e.answer;
+          finished = e.finished;
+          finishes = f.0;
+          put = e.put;
+          first = e.first;
+          stores = e.stores;
+          said = e.said;
+          said_is = e.said_is;
+          offers = e.offers;
+          settles = s.0;
+          last = e.last;
+          gives_up = e.gives_up;
+          folders_are = e.folders_are;
+        };
+        known = carries.knows e.answer it.known;
         folders_are = it.folders_are;
       } in
       (runs, s.1)
@@ -100,12 +104,9 @@ module _ {W : Type 0} (table other : Table W) (P : W → Type 0) (carries : Carr
   works_carried (Some AtReply) a old turn new plain p it = runs_carried a old turn new plain p it
 
   tells_carried : (q : Request) (fh : ℕ) (usage : FolderUse) (old : W) (turn : Turn) (new : W) → P old → TellsEntries table settings q fh usage old turn new → TellsEntries other settings q fh usage old turn new × P new
-  tells_carried q fh (ReadEntries offset size) old turn new p (lends, page, lent, works) =
+  tells_carried q fh usage old turn new p (lends, page, lent, works) =
       let r = works_carried turn.refused (attempt q (page_want q.node page.entries) lends page) old turn new (page_plain q.node page.entries) p works in
       ((lends, page, lent, r.0), r.1)
-  tells_carried q fh (ReadNames offset size) old turn new p it = absurd it
-  tells_carried q fh GiveUp old turn new p it = absurd it
-  tells_carried q fh Sync old turn new p it = absurd it
 
   -- ---- a request
 

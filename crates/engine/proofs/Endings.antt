@@ -1,11 +1,13 @@
 -- How requests are concluded.
-use Rattle.std.proofs.Common.{ℕ, ◌≡◌, Bool, true, false, List, [], ◌∷◌, ◌++◌, Option, Some, None, Ok, Err, if◌then◌else◌, refl, sym, ap, subst}
+use Rattle.std.proofs.Common.{ℕ, ◌≡◌, Bool, true, false, List, [], ◌∷◌, ◌++◌, Option, Some, None, Ok, Err, unwrap_or, if◌then◌else◌, refl, sym, ap, subst}
+use Rattle.std.specs.Borrow.{Bor}
 use Rattle.errno.specs.declared.TheConstants.{EIO, ENOMEM}
 use Rattle.backing.specs.declared.call.Child.{Child}
 use Rattle.handles.specs.Listings.{are_lawful, IsMade, OpenFolder}
 use Rattle.handles.specs.declared.listing.ListingFault.TheVariants.{Memory}
 use Rattle.ops.specs.Ahead.{end_of, outcome_of, LooksAtEach}
 use Rattle.ops.specs.Replies.{opened_reply, reply_to}
+use Rattle.ops.specs.Pages.{Paged, no_page}
 use Rattle.ops.specs.Scripts.{listed_end, plan_of, End, Follows, Made}
 use Rattle.terms.specs.declared.settings.Settings.{Settings}
 use Rattle.ops.specs.declared.findings.ScriptResult.{ScriptResult}
@@ -23,9 +25,14 @@ use Rattle.wire.specs.declared.request.Operation.{Operation}
 use Rattle.engine.specs.declared.links.Sent.{Sent}
 use Rattle.handles.specs.Calls.{FolderCall, Put}
 use Rattle.engine.specs.Folders.{GivesUp, PutsListing}
-use Rattle.engine.specs.Reference.{Place, AtBegin, AtScript, AtListing, AtReply, IsSaid, IsTold, Plays, Stores}
+use Rattle.engine.specs.Reference.{Begun, Place, AtBegin, AtScript, AtListing, AtReply, IsSaid, IsTold, Plays, Stores}
 use Rattle.engine.specs.Replies.{refusal, TakesMemory}
-use Rattle.engine.specs.Walks.{Begun, LinkAndTable, Rules, entries_found, listing_found, no_memory, Concludes, IsPlain, RepliesTaken}
+use Rattle.engine.specs.Walks.{LinkAndTable, Rules, entries_found, listing_found, no_memory, page_of, Concludes, IsPlain, RepliesTaken}
+
+-- a page, or none
+pub paged : (page : Option (Bor Paged)) (empty : Bor Paged) → empty.now ≡ no_page → (unwrap_or page empty).now ≡ page_of page
+paged None empty none = none
+paged (Some page) empty none = refl
 
 told : (refused : Option Place) (meant said : ReplyBody) → IsSaid refused meant said → IsTold refused meant said
 told None meant said is = is
@@ -87,22 +94,6 @@ pub none_given_up : (taken : Bool) → GivesUp taken None []
 none_given_up true = refl
 none_given_up false = refl
 
-pub is_plain : (finding : ScriptResult) → ((children : List Child) → finding ≡ findings.Listed children → ⊥) → ((founds : List (Option FoundFile)) → finding ≡ findings.Looked founds → ⊥) → IsPlain finding
-is_plain (findings.Listed children) h k = h children refl
-is_plain (findings.Looked founds) h k = k founds refl
-is_plain (findings.Error errno) h k = tt
-is_plain findings.Nothing h k = tt
-is_plain (findings.NewEntry found) h k = tt
-is_plain (findings.Attributes found) h k = tt
-is_plain (findings.NewFile found) h k = tt
-is_plain findings.Opening h k = tt
-is_plain (findings.Bytes bytes) h k = tt
-is_plain (findings.Written size) h k = tt
-is_plain (findings.Hid candidate) h k = tt
-is_plain (findings.Replaced candidate) h k = tt
-is_plain (findings.Unmoved candidate errno) h k = tt
-is_plain findings.Kept h k = tt
-
 played : (settings : Settings) (refused : Option Place) (meant said : ReplyBody) (operation : Operation) (ticket : Claim) (made : List Made) (end : End) → IsSaid refused meant said → Follows (plan_of settings operation ticket) made end → Plays settings refused operation ticket made end
 played settings None meant said operation ticket made end is f = f
 played settings (Some AtBegin) meant said operation ticket made end is f = absurd is
@@ -127,19 +118,23 @@ module _ {W L : Type 0} (rules : Rules W L) where
       record {
         refused = s.refused;
         script = played rules.settings s.refused meant s.said b.q.operation b.ticket made (record { outcome = outcome; findings = finding }) s.said_is follows;
-        answer = answer;
-        finished = finished;
-        finishes = finishes;
-        put = put;
-        first = first;
-        stores = stored s.refused meant s.said b.q.node finding first put s.said_is puts;
         said = s.said;
-        said_is = subst (λ (body : ReplyBody). IsTold s.refused body s.said) is (told s.refused meant s.said s.said_is);
         offer = s.offer;
-        settles = subst (λ (t : Bool). rules.table.settles finished answer put t new.world) r.taken_is settles;
-        last = last;
-        gives_up = subst (λ (t : Bool). GivesUp t put last) r.taken_is gives;
-        folders_are = refl;
+        concluded = record {
+          answer = answer;
+          finished = finished;
+          finishes = finishes;
+          put = put;
+          first = first;
+          stores = stored s.refused meant s.said b.q.node finding first put s.said_is puts;
+          said = s.said;
+          said_is = subst (λ (body : ReplyBody). IsTold s.refused body s.said) is (told s.refused meant s.said s.said_is);
+          offers = refl;
+          settles = subst (λ (t : Bool). rules.table.settles finished answer put t new.world) r.taken_is settles;
+          last = last;
+          gives_up = subst (λ (t : Bool). GivesUp t put last) r.taken_is gives;
+          folders_are = refl;
+        };
       }
 
   pub concluded_plain : (b : Begun) (made : List Made) (finding : ScriptResult) (meant : ReplyBody) (answer : Answer) (old new : LinkAndTable L W) (finished : W) (sent : Sent) (taken : Bool) → IsPlain finding
@@ -168,19 +163,23 @@ module _ {W L : Type 0} (rules : Rules W L) where
   concluded_starved b made children answer old new finished sent lawful follows finishes s settles = record {
     refused = Some AtListing;
     script = follows;
-    answer = answer;
-    finished = finished;
-    finishes = finishes;
-    put = None;
-    first = [];
-    stores = (lawful, refl, refl);
     said = Failed ENOMEM;
-    said_is = refl;
     offer = s;
-    settles = settles;
-    last = [];
-    gives_up = refl;
-    folders_are = refl;
+    concluded = record {
+      answer = answer;
+      finished = finished;
+      finishes = finishes;
+      put = None;
+      first = [];
+      stores = (lawful, refl, refl);
+      said = Failed ENOMEM;
+      said_is = refl;
+      offers = refl;
+      settles = settles;
+      last = [];
+      gives_up = refl;
+      folders_are = refl;
+    };
   }
 
   -- ---- READDIRPLUS
@@ -199,17 +198,21 @@ module _ {W L : Type 0} (rules : Rules W L) where
   concluded_short b answer old new finished sent looks finishes s settles = record {
     refused = Some AtScript;
     script = (looks, refl, refl);
-    answer = answer;
-    finished = finished;
-    finishes = finishes;
-    put = None;
-    first = [];
-    stores = (refl, refl);
     said = Failed ENOMEM;
-    said_is = refl;
     offer = s;
-    settles = settles;
-    last = [];
-    gives_up = refl;
-    folders_are = refl;
+    concluded = record {
+      answer = answer;
+      finished = finished;
+      finishes = finishes;
+      put = None;
+      first = [];
+      stores = (refl, refl);
+      said = Failed ENOMEM;
+      said_is = refl;
+      offers = refl;
+      settles = settles;
+      last = [];
+      gives_up = refl;
+      folders_are = refl;
+    };
   }

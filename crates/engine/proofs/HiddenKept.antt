@@ -9,7 +9,7 @@ use Rattle.ops.specs.Scripts.{Made}
 use Rattle.engine.specs.declared.ends.SessionEnd.{SessionEnd}
 use Rattle.engine.specs.Hiding.{hiding}
 use Rattle.engine.specs.Reference.{IsSession, Stop, Turn, starting}
-use Rattle.engine.specs.Serving.{Behaviour, Environment, IsClientRun, IsSessionRun, Removes, RemovesLeft, Traffic, around, heard_of, turns_of}
+use Rattle.engine.specs.Serving.{Behaviour, Environment, IsClientRun, IsSessionRun, Removes, Traffic, around, heard_of, turns_of}
 use Rattle.engine.specs.Tables.{worlds}
 use Rattle.engine.proofs.Carrying.{Carries, turns_carried}
 

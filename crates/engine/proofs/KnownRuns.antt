@@ -1,5 +1,5 @@
 -- A run of calls of a known tree.
-use Rattle.std.proofs.Common.{ℕ, ◌≡◌, List, [], ◌∷◌, Option, sym, ap, ◌∙◌}
+use Rattle.std.proofs.Common.{ℕ, List, [], ◌∷◌, Option, sym, ap, ◌∙◌}
 use Rattle.backing.specs.Calls.{Asked}
 use Rattle.backing.specs.Device.{Counted, counted, faulty}
 use Rattle.backing.specs.KnownTreeLemmas.{counted_none, counted_on}

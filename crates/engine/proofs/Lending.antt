@@ -1,5 +1,5 @@
 -- What requests do with open folders.
-use Rattle.std.proofs.Common.{ℕ, ◌≡◌, ◌≢◌, Bool, true, List, [], ◌∷◌, Option, Some, None, Result, Ok, Err, refl, sym, ap, subst, if◌then◌else◌}
+use Rattle.std.proofs.Common.{ℕ, ◌≡◌, ◌≢◌, Bool, true, List, [], ◌∷◌, Option, Some, None, Result, Ok, Err, inl, inr, refl, sym, ap, subst, if◌then◌else◌}
 use Rattle.std.specs.Prelude.{IfOk, OnErr}
 use Rattle.std.proofs.lemmas.Bool.{eq-eqb, ne_eqb}
 use Rattle.errno.specs.declared.TheConstants.{EBADF}
@@ -10,11 +10,12 @@ use Rattle.wire.specs.declared.reply.ReplyBody.TheVariants.{Failed}
 use Rattle.ops.specs.Folders.{IsPaged}
 use Rattle.ops.specs.Pages.{Paged}
 use Rattle.ops.specs.declared.intents.FolderUse.TheVariants.{ReadEntries}
-use Rattle.engine.specs.declared.entries.Lends.{Lends}
-use Rattle.engine.specs.declared.entries.Lends.TheVariants as lends
+use Rattle.engine.specs.declared.folders.FolderAnswer.{FolderAnswer}
+use Rattle.engine.specs.declared.folders.FolderAnswer.TheVariants as answers
 use Rattle.handles.specs.Calls.{FolderCall, Lend}
 use Rattle.engine.specs.Chain.{Chain}
-use Rattle.engine.specs.Folders.{ByCalls, IsLentPage, IsUsed, LendsPage, PagesOf, Uses, on_node}
+use Rattle.engine.specs.Folders.{ByCalls, IsAnsweredBy, IsUsed, LacksAnswer, LendsPage, PagesOf, Uses, on_node}
+use Rattle.engine.specs.Replies.{TakesMemory}
 
 on : (node : ℕ) (folder : OpenFolder) → folder.number ≡ node → on_node node (Some folder) ≡ Some folder
 on node folder e = ap (λ (b : Bool). if b then Some folder else None) (eq-eqb folder.number node e)
@@ -70,10 +71,17 @@ module _ {D : Type 0} (keeps : D → FolderCall → D → Type 0) (node fh : ℕ
     so = record { folder = folder; is_lent = lent; on_node = same; paged = paged; from = from; folders_are = refl };
   }
 
-  pub pages_lent : (offset size : ℕ) (folder : OpenFolder) (what : Lends) (old new : D) → keeps old (Lend fh (Some folder)) new → IsLent fh folder → folder.number ≡ node → PagesOf folder.entries offset size what
-      → ByCalls keeps old new (λ folders. IsLentPage node fh offset size folders what)
-  pages_lent offset size folder (lends.Page page) old new step lent same (paged, from) = page_lent offset size folder page old new step lent same paged from
-  pages_lent offset size folder (lends.Nothing meant) old new step lent same (small, is) = here (ReadEntries offset size) folder [] meant old new new step refl lent same (refl, small, is)
+  pub pages_lent : (offset size : ℕ) (folder : OpenFolder) (what : FolderAnswer) (old new : D) → keeps old (Lend fh (Some folder)) new → IsLent fh folder → folder.number ≡ node → PagesOf folder.entries offset size what
+      → ByCalls keeps old new (λ folders. IsAnsweredBy node fh (ReadEntries offset size) folders what)
+  pages_lent offset size folder (answers.Page page) old new step lent same (paged, from) = page_lent offset size folder page old new step lent same paged from
+  pages_lent offset size folder (answers.Reply meant) old new step lent same (small, is) = here (ReadEntries offset size) folder [] meant old new new step refl lent same (refl, small, is)
+
+  -- memory for an answer is refused
+  pub lacks_reply : (usage : FolderUse) (meant : ReplyBody) (old new : D) → TakesMemory meant → ByCalls keeps old new (λ folders. IsUsed node fh usage folders meant) → ByCalls keeps old new (λ folders. LacksAnswer node fh usage folders)
+  lacks_reply usage meant old new takes used = record { folders = used.folders; chain = used.chain; so = inr (meant, used.so, takes) }
+
+  pub lacks_page : (offset size : ℕ) (page : Paged) (old new : D) → ByCalls keeps old new (λ folders. LendsPage node fh offset size folders page) → ByCalls keeps old new (λ folders. LacksAnswer node fh (ReadEntries offset size) folders)
+  lacks_page offset size page old new lends = record { folders = lends.folders; chain = lends.chain; so = inl (page, lends.so) }
 
 -- ---- results
 

@@ -1,5 +1,5 @@
 -- The results of one frame.
-use Rattle.std.proofs.Common.{ℕ, ℤ, ◌≡◌, ◌≢◌, true, false, List, [], ◌++◌, Option, Some, None, IfSome, IfNone, inl, inr, refl, sym, ap, ◌∙◌, subst, append_assoc, append-nil}
+use Rattle.std.proofs.Common.{ℕ, ℤ, ◌≡◌, true, false, List, [], ◌++◌, Option, Some, None, IfSome, IfNone, inl, inr, refl, subst, append-nil}
 use Rattle.errno.specs.declared.TheConstants.{ENOMEM}
 use Rattle.table_files.specs.declared.data.OpenFile.{OpenFile}
 use Rattle.table_requests.specs.declared.data.Want.{Want}
@@ -14,21 +14,21 @@ use Rattle.wire.specs.declared.reply.ReplyBody.{ReplyBody}
 use Rattle.wire.specs.declared.reply.ReplyBody.TheVariants.{Failed}
 use Rattle.wire.specs.declared.request.Request.{Request}
 use Rattle.engine.specs.declared.links.Sent.{Sent}
-use Rattle.engine.specs.declared.using.HandleUse.{HandleUse}
 use Rattle.ops.specs.Intents.{Intent, intent, refusal_errno}
 use Rattle.ops.specs.Intents as intents
 use Rattle.handles.specs.Calls.{FolderCall}
-use Rattle.engine.specs.Reference.{Attempt, Place, AtBegin, AtScript, AtListing, AtReply, Turn, ForgetsAll, HasNames, IsSaid, IsTold, Says, Serves, RunsRequest, WorksOff, attempt}
+use Rattle.engine.specs.Reference.{Attempt, Place, AtBegin, AtScript, AtListing, AtReply, Turn, ForgetsAll, HasNames, IsSaid, IsTold, Says, Serves, RunsRequest, WorksOff, attempt, begun_with}
 use Rattle.wire.specs.declared.pairs.ForgetOne.{ForgetOne}
 use Rattle.ops.specs.declared.intents.FolderUse.{FolderUse}
-use Rattle.ops.specs.declared.intents.FolderUse.TheVariants as uses
-use Rattle.ops.specs.Pages.{no_page}
+use Rattle.ops.specs.Pages.{no_page, page_want}
+use Rattle.engine.specs.Chain.{Chain}
 use Rattle.engine.specs.Classes.{is_unanswered}
+use Rattle.engine.specs.Folders.{LacksAnswer}
 use Rattle.engine.specs.Replies.{refusal, TakesMemory}
 use Rattle.ops.specs.Replies.{file_reply}
 use Rattle.ops.specs.Scripts.{Made}
 use Rattle.engine.specs.Serving.{Behaviour, Environment, around}
-use Rattle.engine.specs.Walks.{Rules, IsAnswered, WorkedOff, RunsScript, RunsOut, RunsOwned, TellsOut, UsesOut, begun}
+use Rattle.engine.specs.Walks.{Rules, IsAnswered, WorkedOff, RunsScript, RunsOut, TellsPage, UsesOut}
 use Rattle.engine.proofs.Runs.{chain_append}
 
 -- a frame with its reply
@@ -54,18 +54,8 @@ silent frame = record { frame = frame; refused = None; made = []; folders = []; 
 pub sent_from : {L : Type 0} (sends : L → List ℕ → Sent → L → Type 0) (old mid new : L) (bytes : List ℕ) (sent : Sent) → mid ≡ old → sends mid bytes sent new → sends old bytes sent new
 sent_from {L = L} sends old mid new bytes sent same s = subst (λ (l : L). sends l bytes sent new) same s
 
-pub answered : {L : Type 0} (sends : L → List ℕ → Sent → L → Type 0) (meant : Reply) (old new : L) (sent : Sent) → sends old (reply_bytes meant) sent new → IsAnswered sends meant old sent new
-answered sends meant old new sent s = record { refused = None; said = meant.body; said_is = refl; offer = s }
-
 pub starved : {L : Type 0} (sends : L → List ℕ → Sent → L → Type 0) (meant : Reply) (old new : L) (sent : Sent) → TakesMemory meant.body → sends old (reply_bytes (refusal meant.unique ENOMEM)) sent new → IsAnswered sends meant old sent new
 starved sends meant old new sent takes s = record { refused = Some AtReply; said = Failed ENOMEM; said_is = (takes, refl); offer = s }
-
--- a reply that was sent shows that memory was not refused before
-said_later : (refused : Option Place) (meant said : ReplyBody) → IsSaid refused meant said → refused ≢ Some AtBegin
-said_later refused meant said is none = subst (λ (place : Option Place). IsSaid place meant said) none is
-
-told_later : (refused : Option Place) (meant said : ReplyBody) → IsTold refused meant said → refused ≢ Some AtBegin
-told_later refused meant said is none = subst (λ (place : Option Place). IsTold place meant said) none is
 
 module _ {W L C D : Type 0} (rules : Rules W L) (does : Behaviour C D) where
   -- a frame that is not a request
@@ -141,13 +131,10 @@ module _ {W L C D : Type 0} (rules : Rules W L) (does : Behaviour C D) where
   }
 
   -- entries of an open folder are returned by a request that begins
-  begun_with : (frame : List ℕ) (q : Request) (fh : ℕ) (usage : FolderUse) (old new : Environment W L C D) (sent : Sent) → IsRequest frame q → intents.Folder fh usage ≡ intent rules.settings q
-      → TellsOut rules does q fh usage old sent new
+  told_entries : (frame : List ℕ) (q : Request) (fh : ℕ) (usage : FolderUse) (old new : Environment W L C D) (sent : Sent) → IsRequest frame q → intents.Folder fh usage ≡ intent rules.settings q
+      → TellsPage rules does q fh usage old sent new
       → WorkedOff rules does frame old (Some sent) new
-  begun_with frame q fh (uses.ReadNames offset size) old new sent is i t = absurd t
-  begun_with frame q fh uses.GiveUp old new sent is i t = absurd t
-  begun_with frame q fh uses.Sync old new sent is i t = absurd t
-  begun_with frame q fh (uses.ReadEntries offset size) old new sent is i t =
+  told_entries frame q fh usage old new sent is i t =
       let a = t.runs in
       let turn = acting frame a.refused a.made (t.lends.folders ++ a.more) q.unique a.said sent in
       record {
@@ -161,11 +148,11 @@ module _ {W L C D : Type 0} (rules : Rules W L) (does : Behaviour C D) where
       }
 
   -- a request that uses an open folder
-  pub used : (frame : List ℕ) (q : Request) (by : HandleUse) (old new : Environment W L C D) (sent : Sent) → IsRequest frame q → intents.Folder by.fh by.usage ≡ intent rules.settings q
-      → UsesOut rules does q by old sent new
+  pub used : (frame : List ℕ) (q : Request) (fh : ℕ) (usage : FolderUse) (old new : Environment W L C D) (sent : Sent) → IsRequest frame q → intents.Folder fh usage ≡ intent rules.settings q
+      → UsesOut rules does q fh usage old sent new
       → WorkedOff rules does frame old (Some sent) new
-  used frame q by old new sent is i (inr t) = begun_with frame q by.fh by.usage old new sent is i t
-  used frame q by old new sent is i (inl u) =
+  used frame q fh usage old new sent is i (inr t) = told_entries frame q fh usage old new sent is i t
+  used frame q fh usage old new sent is i (inl u) =
       let turn = acting frame u.told.refused [] u.uses.folders q.unique u.told.said sent in
       record {
         turn = turn;
@@ -228,42 +215,29 @@ module _ {W L C D : Type 0} (rules : Rules W L) (does : Behaviour C D) where
   works_by (Some AtReply) a old turn new meant said is c = c
 
   pub goes_on : (a : Attempt) (ticket : Claim) (old new : Environment W L C D) (at : W) (sent : Sent) → rules.table.begins old.at a.q.unique a.want (Go ticket) at
-      → (p : RunsScript rules does (begun a.q a.page ticket) (around old.link old.served at) sent new) → rules.table.knows p.concludes.so.answer
-      → RunsOwned rules does a old sent new
+      → (p : RunsScript rules does (begun_with a.q a.page ticket) (around old.link old.served at) sent new) → rules.table.knows p.concludes.so.concluded.answer
+      → RunsOut rules does a old sent new
   goes_on a ticket old new at sent b p known =
       let e = p.concludes.so in
       let more = p.concludes.folders in
       record {
-        runs = record {
-          refused = e.refused;
-          made = p.made;
+        refused = e.refused;
+        made = p.made;
+        more = more;
+        said = e.said;
+        draws = record { makes = p.makes; keeps = p.concludes.chain };
+        offer = e.offer;
+        works = λ frame. works_by e.refused a old.at (acting frame e.refused p.made (a.lends ++ more) a.q.unique e.said sent) new.at _ e.concluded.said e.concluded.said_is (record {
+          ticket = ticket;
+          begun = at;
+          begins = b;
+          end = p.end;
+          script = e.script;
           more = more;
-          said = e.said;
-          draws = record { makes = p.makes; keeps = p.concludes.chain };
-          offer = e.offer;
-          works = λ frame. works_by e.refused a old.at (acting frame e.refused p.made (a.lends ++ more) a.q.unique e.said sent) new.at _ e.said e.said_is (record {
-            ticket = ticket;
-            begun = at;
-            begins = b;
-            end = p.end;
-            script = e.script;
-            answer = e.answer;
-            finished = e.finished;
-            finishes = e.finishes;
-            known = known;
-            put = e.put;
-            first = e.first;
-            stores = e.stores;
-            said = e.said;
-            said_is = e.said_is;
-            offers = refl;
-            settles = e.settles;
-            last = e.last;
-            gives_up = e.gives_up;
-            folders_are = ap (λ (fs : List FolderCall). a.lends ++ fs) e.folders_are ∙ sym (append_assoc a.lends e.first e.last);
-          });
-        };
-        owned = told_later e.refused _ e.said e.said_is;
+          concluded = e.concluded;
+          known = known;
+          folders_are = refl;
+        });
       }
 
   by_refusal : (refused : Option Place) (a : Attempt) (errno : ℤ) (said : ReplyBody) (world world' : W) (turn : Turn) → IsSaid refused (Failed errno) said → rules.table.begins world a.q.unique a.want (Refused errno) world' → Says a.lends a.q.unique said world' turn world'
@@ -277,18 +251,15 @@ module _ {W L C D : Type 0} (rules : Rules W L) (does : Behaviour C D) where
   -- the table refuses it
   pub table_refused : (a : Attempt) (errno : ℤ) (old : Environment W L C D) (link : L) (at : W) (sent : Sent) → rules.table.begins old.at a.q.unique a.want (Refused errno) at
       → IsAnswered rules.sends (refusal a.q.unique errno) old.link sent link
-      → RunsOwned rules does a old sent (around link old.served at)
+      → RunsOut rules does a old sent (around link old.served at)
   table_refused a errno old link at sent b w = record {
-    runs = record {
-      refused = w.refused;
-      made = [];
-      more = [];
-      said = w.said;
-      draws = record { makes = refl; keeps = refl };
-      offer = w.offer;
-      works = λ frame. by_refusal w.refused a errno w.said old.at at (acting frame w.refused [] (a.lends ++ []) a.q.unique w.said sent) w.said_is b (record { offers = refl; no_call = refl; folders_are = append-nil a.lends; same = refl });
-    };
-    owned = said_later w.refused (Failed errno) w.said w.said_is;
+    refused = w.refused;
+    made = [];
+    more = [];
+    said = w.said;
+    draws = record { makes = refl; keeps = refl };
+    offer = w.offer;
+    works = λ frame. by_refusal w.refused a errno w.said old.at at (acting frame w.refused [] (a.lends ++ []) a.q.unique w.said sent) w.said_is b (record { offers = refl; no_call = refl; folders_are = append-nil a.lends; same = refl });
   }
 
   -- memory is refused before it begins
@@ -303,3 +274,23 @@ module _ {W L C D : Type 0} (rules : Rules W L) (does : Behaviour C D) where
     offer = s;
     works = λ frame. (named, record { offers = refl; no_call = refl; folders_are = append-nil a.lends; same = refl });
   }
+
+  -- memory is refused for what an open folder is asked
+  pub lacking : (q : Request) (fh : ℕ) (usage : FolderUse) (old : Environment W L C D) (dirs : D) (link : L) (sent : Sent) (folders : List FolderCall) → Chain does.keeps old.served.dirs folders dirs → LacksAnswer q.node fh usage folders
+      → rules.sends old.link (reply_bytes (refusal q.unique ENOMEM)) sent link
+      → UsesOut rules does q fh usage old sent (around link (record { calls = old.served.calls; dirs = dirs }) old.at)
+  lacking q fh usage old dirs link sent folders chain (inl (page, lent)) s =
+      inr (record {
+        page = page;
+        lent = dirs;
+        lends = record { folders = folders; chain = chain; so = lent };
+        runs = page_unbegun (attempt q (page_want q.node page.entries) folders page) (around old.link (record { calls = old.served.calls; dirs = dirs }) old.at) link sent tt s;
+      })
+  lacking q fh usage old dirs link sent folders chain (inr (meant, used, takes)) s =
+      inl (record {
+        meant = meant;
+        uses = record { folders = folders; chain = chain; so = used };
+        told = starved rules.sends (record { unique = q.unique; body = meant }) old.link link sent takes s;
+        calls_are = refl;
+        world_is = refl;
+      })

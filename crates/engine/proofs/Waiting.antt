@@ -16,7 +16,7 @@ use Rattle.engine.specs.Reference.{Attempt, HasNames, attempt}
 use Rattle.engine.specs.Replies.{refusal}
 use Rattle.engine.specs.Serving.{Behaviour, Environment, around}
 use Rattle.engine.specs.Tables.{Table}
-use Rattle.engine.specs.Walks.{Rules, RunsOut, RunsOwned, IsUntouched, by_rules}
+use Rattle.engine.specs.Walks.{Rules, RunsOut, IsUntouched, by_rules}
 use Rattle.engine.proofs.Turns.{page_unbegun}
 
 -- a want whose names must be copied
@@ -41,15 +41,14 @@ module _ {W L C D : Type 0} (rules : Rules W L) (does : Behaviour C D) where
 
 module _ {W L C D : Type 0} (table : Table W) (sends : L → List ℕ → Sent → L → Type 0) (does : Behaviour C D) where
   -- it has begun in the end
-  pub runs_after : (settings now : Settings) (q : Request) (want w : Want) (lends : List FolderCall) (page p : Paged) (old mid new : Environment W L C D) (sent : Sent) → now ≡ settings → w ≡ want → p ≡ page → IsUntouched old mid
-      → RunsOwned (by_rules table now sends) does (attempt q w lends p) (around mid.link mid.served mid.at) sent new
+  pub runs_after : (settings now : Settings) (q : Request) (want w : Want) (lends : List FolderCall) (page : Paged) (old mid new : Environment W L C D) (sent : Sent) → now ≡ settings → w ≡ want → IsUntouched old mid
+      → RunsOut (by_rules table now sends) does (attempt q w lends page) (around mid.link mid.served mid.at) sent new
       → RunsOut (by_rules table settings sends) does (attempt q want lends page) (around old.link old.served old.at) sent new
-  runs_after settings now q want w lends page p old mid new sent set wanted paged same r =
+  runs_after settings now q want w lends page old mid new sent set wanted same r =
       let rules = by_rules table settings sends in
       let a = attempt q want lends page in
-      let owned = subst (λ (n : Settings). RunsOwned (by_rules table n sends) does (attempt q w lends p) (around mid.link mid.served mid.at) sent new) set r in
-      let with_want = subst (λ (v : Want). RunsOwned rules does (attempt q v lends p) (around mid.link mid.served mid.at) sent new) wanted owned in
-      let with_page = subst (λ (v : Paged). RunsOwned rules does (attempt q want lends v) (around mid.link mid.served mid.at) sent new) paged with_want in
+      let with_rules = subst (λ (n : Settings). RunsOut (by_rules table n sends) does (attempt q w lends page) (around mid.link mid.served mid.at) sent new) set r in
+      let with_want = subst (λ (v : Want). RunsOut rules does (attempt q v lends page) (around mid.link mid.served mid.at) sent new) wanted with_rules in
       subst (λ (l : L). RunsOut rules does a (around l old.served old.at) sent new) same.link_is
       (subst (λ (c : Served C D). RunsOut rules does a (around mid.link c old.at) sent new) same.served_is
-      (subst (λ (w : W). RunsOut rules does a (around mid.link mid.served w) sent new) same.world_is with_page.runs))
+      (subst (λ (w : W). RunsOut rules does a (around mid.link mid.served w) sent new) same.world_is with_want))

@@ -1,5 +1,5 @@
 -- What requests do with open folders.
-use Rattle.std.specs.Prelude.{ℕ, ◌≡◌, ◌==◌, Bool, true, false, if◌then◌else◌, List, [], ◌∷◌, Option, Some, None, Ok, Err}
+use Rattle.std.specs.Prelude.{ℕ, ◌≡◌, ◌==◌, ◌⊎◌, Bool, true, false, if◌then◌else◌, List, [], ◌∷◌, Option, Some, None, Ok, Err}
 use Rattle.errno.specs.declared.TheConstants.{EBADF, EINVAL}
 use Rattle.backing.specs.declared.call.Child.{Child}
 use Rattle.handles.specs.Calls.{FolderCall, Put, Lend, Retire, IsLentFor}
@@ -12,8 +12,9 @@ use Rattle.ops.specs.declared.findings.ScriptResult.TheVariants as findings
 use Rattle.ops.specs.declared.intents.FolderUse.{FolderUse}
 use Rattle.ops.specs.declared.intents.FolderUse.TheVariants.{ReadNames, ReadEntries, GiveUp, Sync}
 use Rattle.engine.specs.Chain.{Chain}
-use Rattle.engine.specs.declared.entries.Lends.{Lends}
-use Rattle.engine.specs.declared.entries.Lends.TheVariants as lends
+use Rattle.engine.specs.Replies.{TakesMemory}
+use Rattle.engine.specs.declared.folders.FolderAnswer.{FolderAnswer}
+use Rattle.engine.specs.declared.folders.FolderAnswer.TheVariants as answers
 use Rattle.wire.specs.declared.reply.ReplyBody.{ReplyBody}
 use Rattle.wire.specs.declared.reply.ReplyBody.TheVariants.{Failed, Done}
 
@@ -61,19 +62,24 @@ pub record LendsPage (node fh offset size : ℕ) (folders : List FolderCall) (pa
   pub from : page.from ≡ offset
   pub folders_are : folders ≡ Lend fh (Some folder) ∷ []
 
--- every use for which the request does not begin
-abbrev pub IsAtOnce : FolderUse → Type 0
-IsAtOnce (ReadEntries offset size) = ⊥
-IsAtOnce usage = Unit {0}
+-- the same for a use: only for READDIRPLUS entries are returned
+abbrev pub LendsFor : (node fh : ℕ) → FolderUse → List FolderCall → Paged → Type 0
+LendsFor node fh (ReadEntries offset size) folders page = LendsPage node fh offset size folders page
+LendsFor node fh usage folders page = ⊥
 
 -- in the code: a page of these entries, or the answer if there is none
-abbrev pub PagesOf : List Child → (offset size : ℕ) → Lends → Type 0
-PagesOf entries offset size (lends.Page page) = IsPaged true entries offset size (Some page.entries) × (page.from ≡ offset)
-PagesOf entries offset size (lends.Nothing meant) = IsPaged true entries offset size None × (meant ≡ Failed EINVAL)
+abbrev pub PagesOf : List Child → (offset size : ℕ) → FolderAnswer → Type 0
+PagesOf entries offset size (answers.Page page) = IsPaged true entries offset size (Some page.entries) × (page.from ≡ offset)
+PagesOf entries offset size (answers.Reply meant) = IsPaged true entries offset size None × (meant ≡ Failed EINVAL)
 
-abbrev pub IsLentPage : (node fh offset size : ℕ) → List FolderCall → Lends → Type 0
-IsLentPage node fh offset size folders (lends.Page page) = LendsPage node fh offset size folders page
-IsLentPage node fh offset size folders (lends.Nothing meant) = IsUsed node fh (ReadEntries offset size) folders meant
+abbrev pub IsAnsweredBy : (node fh : ℕ) → FolderUse → List FolderCall → FolderAnswer → Type 0
+IsAnsweredBy node fh usage folders (answers.Page page) = LendsFor node fh usage folders page
+IsAnsweredBy node fh usage folders (answers.Reply meant) = IsUsed node fh usage folders meant
+
+-- the same where memory for it was refused
+abbrev pub LacksAnswer : (node fh : ℕ) → FolderUse → List FolderCall → Type 0
+LacksAnswer node fh usage folders =
+    ((page : Paged) × LendsFor node fh usage folders page) ⊎ ((meant : ReplyBody) × IsUsed node fh usage folders meant × TakesMemory meant)
 
 -- ---- OPENDIR
 

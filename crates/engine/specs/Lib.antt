@@ -14,4 +14,5 @@ pub mod AloneLemmas
 pub mod ReachLemmas
 pub mod Hearing
 pub mod Hiding
+pub mod Keeping
 pub mod Known

@@ -32,11 +32,10 @@ use Rattle.engine.specs.declared.ends.SessionEnd.TheVariants as ends
 use Rattle.engine.specs.Chain.{Chain}
 use Rattle.engine.specs.Classes.{class, is_unanswered}
 use Rattle.handles.specs.Calls.{FolderCall}
-use Rattle.engine.specs.Folders.{IsUsed, GivesUp, LacksListing, LendsPage, PutsListing}
+use Rattle.engine.specs.Folders.{IsUsed, GivesUp, LacksListing, LendsFor, PutsListing}
 use Rattle.ops.specs.declared.findings.ScriptResult.{ScriptResult}
 use Rattle.ops.specs.declared.findings.ScriptResult.TheVariants as findings
 use Rattle.ops.specs.declared.intents.FolderUse.{FolderUse}
-use Rattle.ops.specs.declared.intents.FolderUse.TheVariants.{ReadEntries}
 use Rattle.ops.specs.Ahead.{LooksAtEach}
 use Rattle.ops.specs.Pages.{Paged, no_page, page_want}
 use Rattle.ops.specs.Intents.{Intent, intent, refusal_errno}
@@ -217,7 +216,32 @@ pub record Attempt : Type 0 where
 abbrev pub attempt : Request → Want → List FolderCall → Paged → Attempt
 attempt q want lends page = record { q = q; want = want; lends = lends; page = page }
 
+-- a request that has begun, with the page that it returns and its ticket
+pub record Begun : Type 0 where
+  pub q : Request
+  pub page : Paged
+  pub ticket : Claim
+
+abbrev pub begun_with : Request → Paged → Claim → Begun
+begun_with q page ticket = record { q = q; page = page; ticket = ticket }
+
 module _ {W : Type 0} (table : Table W) (settings : Settings) where
+  -- a request whose script has ended is finished, answered and settled, with these calls of the open folders
+  pub record IsConcluded (b : Begun) (refused : Option Place) (end : End) (folders : List FolderCall) (old : W) (offer : Option Offer) (new : W) : Type 0 where
+    pub answer : Answer
+    pub finished : W
+    pub finishes : table.finishes old b.ticket.id end.outcome answer finished
+    pub put : Option ℕ
+    pub first : List FolderCall
+    pub stores : Stores refused b.q.node end.findings first put
+    pub said : ReplyBody
+    pub said_is : IsTold refused (reply_to settings b.q.node b.page end.findings put answer) said
+    pub offers : Offers offer b.q.unique said
+    pub settles : table.settles finished answer put (taken_of refused offer) new
+    pub last : List FolderCall
+    pub gives_up : GivesUp (taken_of refused offer) put last
+    pub folders_are : folders ≡ first ++ last
+
   -- a request from begin to settle
   pub record RunsRequest (a : Attempt) (old : W) (turn : Turn) (new : W) : Type 0 where
     pub ticket : Claim
@@ -225,20 +249,10 @@ module _ {W : Type 0} (table : Table W) (settings : Settings) where
     pub begins : table.begins old a.q.unique a.want (Go ticket) begun
     pub end : End
     pub script : Plays settings turn.refused a.q.operation ticket turn.made end
-    pub answer : Answer
-    pub finished : W
-    pub finishes : table.finishes begun ticket.id end.outcome answer finished
-    pub known : table.knows answer
-    pub put : Option ℕ
-    pub first : List FolderCall
-    pub stores : Stores turn.refused a.q.node end.findings first put
-    pub said : ReplyBody
-    pub said_is : IsTold turn.refused (reply_to settings a.q.node a.page end.findings put answer) said
-    pub offers : Offers turn.offer a.q.unique said
-    pub settles : table.settles finished answer put (taken_of turn.refused turn.offer) new
-    pub last : List FolderCall
-    pub gives_up : GivesUp (taken_of turn.refused turn.offer) put last
-    pub folders_are : turn.folders ≡ a.lends ++ first ++ last
+    pub more : List FolderCall
+    pub concluded : IsConcluded (begun_with a.q a.page ticket) turn.refused end more begun turn.offer new
+    pub known : table.knows concluded.answer
+    pub folders_are : turn.folders ≡ a.lends ++ more
 
   -- the table refuses it
   pub record IsRefused (a : Attempt) (old : W) (turn : Turn) (new : W) : Type 0 where
@@ -257,9 +271,8 @@ module _ {W : Type 0} (table : Table W) (settings : Settings) where
 
   -- a request that returns entries of an open folder, and begins
   abbrev pub TellsEntries : Request → (fh : ℕ) → FolderUse → W → Turn → W → Type 0
-  TellsEntries q fh (ReadEntries offset size) old turn new =
-      (lends : List FolderCall) × (page : Paged) × LendsPage q.node fh offset size lends page × WorksOff turn.refused (attempt q (page_want q.node page.entries) lends page) old turn new
-  TellsEntries q fh usage old turn new = ⊥
+  TellsEntries q fh usage old turn new =
+      (lends : List FolderCall) × (page : Paged) × LendsFor q.node fh usage lends page × WorksOff turn.refused (attempt q (page_want q.node page.entries) lends page) old turn new
 
   abbrev pub Serves : Request → Intent → W → Turn → W → Type 0
   Serves q (intents.Reply meant) old turn new = Answers q.unique meant old turn new

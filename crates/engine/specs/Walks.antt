@@ -1,5 +1,5 @@
 -- How far the code of a session is, and what it has done.
-use Rattle.std.specs.Prelude.{ℕ, ◌≡◌, ◌≢◌, ◌⊎◌, Bool, true, false, is_some, map, List, ◌++◌, Option, Some, None}
+use Rattle.std.specs.Prelude.{ℕ, ◌≡◌, ◌⊎◌, Bool, true, false, is_some, map, List, ◌++◌, Option, Some, None}
 use Rattle.backing.specs.declared.call.Child.{Child}
 use Rattle.errno.specs.declared.TheConstants.{ENOMEM}
 use Rattle.table_steps.specs.declared.data.Outcome.TheVariants.{Done}
@@ -7,7 +7,8 @@ use Rattle.table_steps.specs.declared.data.Outcome.TheVariants as outcomes
 use Rattle.ops.specs.declared.findings.FoundFile.{FoundFile}
 use Rattle.ops.specs.declared.findings.ScriptResult.{ScriptResult}
 use Rattle.ops.specs.declared.findings.ScriptResult.TheVariants as findings
-use Rattle.table_steps.specs.Answers.{Claim, Answer as Given}
+use Rattle.std.specs.Borrow.{Bor}
+use Rattle.table_requests.specs.declared.data.Want.{Want}
 use Rattle.wire.specs.Faults.{IsFirstFault, fault_errno}
 use Rattle.wire.specs.Requests.{IsFramed, IsRequest, opcode_in, unique_in}
 use Rattle.wire.specs.Stream.{BeginsBadly, IsPartial}
@@ -24,19 +25,20 @@ use Rattle.terms.specs.declared.settings.Settings.{Settings}
 use Rattle.engine.specs.Chain.{Chain}
 use Rattle.engine.specs.Classes.{class}
 use Rattle.handles.specs.Calls.{FolderCall}
-use Rattle.engine.specs.Folders.{ByCalls, GivesUp, IsUsed, LendsPage}
+use Rattle.engine.specs.Folders.{ByCalls, IsUsed, LendsFor}
 use Rattle.ops.specs.declared.intents.FolderUse.{FolderUse}
-use Rattle.ops.specs.declared.intents.FolderUse.TheVariants.{ReadEntries}
-use Rattle.ops.specs.Pages.{Paged, page_want}
+use Rattle.ops.specs.Intents.{want_of}
+use Rattle.ops.specs.Pages.{Paged, no_page, page_want}
 use Rattle.engine.specs.Links.{Piece, Ended, Broke}
-use Rattle.engine.specs.Reference.{At, AtBegin, Attempt, Place, Turn, Offer, IsSaid, IsTold, IsTurn, Asks, HandlesFrame, Plays, Stores, WorksOff, agrees, attempt, ending, init_reply_of, negotiated_by, sent_in, taken_of}
+use Rattle.engine.specs.Reference.{At, Attempt, Begun, Place, Turn, Offer, IsConcluded, IsSaid, IsTurn, Asks, HandlesFrame, Plays, WorksOff, agrees, attempt, begun_with, ending, init_reply_of, negotiated_by, sent_in, taken_of}
 use Rattle.engine.specs.Replies.{done_reply, refusal}
-use Rattle.ops.specs.Replies.{reply_to}
 use Rattle.ops.specs.Scripts.{End, Made}
 use Rattle.engine.specs.Serving.{Behaviour, Draws, Environment, Step, Hears, Works, Makes, Traffic, around}
 use Rattle.engine.specs.declared.served.Served.{Served}
-use Rattle.engine.specs.declared.using.HandleUse.{HandleUse}
-use Rattle.engine.specs.declared.entries.PageAsk.{PageAsk}
+use Rattle.engine.specs.declared.running.Attempt.{Attempt as Attempted}
+use Rattle.engine.specs.declared.running.Begun.{Begun as Going}
+use Rattle.engine.specs.declared.running.Source.{Source}
+use Rattle.engine.specs.declared.running.Source.TheVariants as sources
 use Rattle.engine.specs.Tables.{Table}
 
 -- the link, what is served, the table, and the kept bytes
@@ -159,10 +161,10 @@ HandlesInitFrame sends frame before old sent new now =
     ⊎ (IsFaulty sends frame old sent new × (now ≡ before))
 
 -- a DESTROY
-abbrev pub HandlesDestroy : {L : Type 0} → (L → List ℕ → Sent → L → Type 0) → List ℕ → L → Sent → (destroyed : Bool) → L → Type 0
-HandlesDestroy sends frame old sent destroyed new =
-    ((q : Request) × IsRequest frame q × sends old (reply_bytes (done_reply q.unique)) sent new × (destroyed ≡ true))
-    ⊎ (IsFaulty sends frame old sent new × (destroyed ≡ false))
+abbrev pub HandlesDestroy : {L : Type 0} → (L → List ℕ → Sent → L → Type 0) → List ℕ → L → Option SessionEnd → L → Type 0
+HandlesDestroy sends frame old end new =
+    ((q : Request) × IsRequest frame q × (sent : Sent) × sends old (reply_bytes (done_reply q.unique)) sent new × (end ≡ ending (Some sent) true))
+    ⊎ ((sent : Sent) × IsFaulty sends frame old sent new × (end ≡ ending (Some sent) false))
 
 -- a reply that is given, and whether its request is to be settled as taken
 pub record RepliesTaken {L : Type 0} (sends : L → List ℕ → Sent → L → Type 0) (meant : Reply) (old : L) (sent : Sent) (taken : Bool) (new : L) : Type 0 where
@@ -180,14 +182,27 @@ pub record Rules (W L : Type 0) : Type 1 where
 abbrev pub by_rules : {W L : Type 0} → Table W → Settings → (L → List ℕ → Sent → L → Type 0) → Rules W L
 by_rules table settings sends = record { table = table; settings = settings; sends = sends }
 
--- a request that has begun, with the page that it returns and its ticket
-pub record Begun : Type 0 where
-  pub q : Request
-  pub page : Paged
-  pub ticket : Claim
+-- what the code begins with: a want and a page, which a request without entries does not have
+abbrev pub want_in : ℕ → Source → Want
+want_in node (sources.Frame wanted) = want_of wanted
+want_in node (sources.Page page) = page_want node page.now.entries
 
-abbrev pub begun : Request → Paged → Claim → Begun
-begun q page ticket = record { q = q; page = page; ticket = ticket }
+abbrev pub page_in : Source → Paged
+page_in (sources.Frame wanted) = no_page
+page_in (sources.Page page) = page.now
+
+abbrev pub page_of : Option (Bor Paged) → Paged
+page_of None = no_page
+page_of (Some page) = page.now
+
+abbrev pub attempt_with : Attempted → Want → List FolderCall → Attempt
+attempt_with a want lends = attempt a.request want lends (page_in a.source)
+
+abbrev pub attempt_of : Attempted → List FolderCall → Attempt
+attempt_of a = attempt_with a (want_in a.request.node a.source)
+
+abbrev pub begun_of : Going → Begun
+begun_of b = begun_with b.request (page_of b.page) b.ticket
 
 -- the destination of replies, and the state of the table
 pub record LinkAndTable (L W : Type 0) : Type 0 where
@@ -197,24 +212,13 @@ pub record LinkAndTable (L W : Type 0) : Type 0 where
 abbrev pub with_table : {L W : Type 0} → L → W → LinkAndTable L W
 with_table link world = record { link = link; world = world }
 
--- a request whose script has made these calls and ended is finished, answered and settled, with these calls of the open
--- folders
+-- a request whose script has made these calls and ended is concluded, with these calls of the open folders
 pub record Concludes {W L : Type 0} (rules : Rules W L) (b : Begun) (made : List Made) (end : End) (folders : List FolderCall) (old : LinkAndTable L W) (sent : Sent) (new : LinkAndTable L W) : Type 0 where
   pub refused : Option Place
   pub script : Plays rules.settings refused b.q.operation b.ticket made end
-  pub answer : Given
-  pub finished : W
-  pub finishes : rules.table.finishes old.world b.ticket.id end.outcome answer finished
-  pub put : Option ℕ
-  pub first : List FolderCall
-  pub stores : Stores refused b.q.node end.findings first put
   pub said : ReplyBody
-  pub said_is : IsTold refused (reply_to rules.settings b.q.node b.page end.findings put answer) said
   pub offer : rules.sends old.link (reply_bytes (record { unique = b.q.unique; body = said })) sent new.link
-  pub settles : rules.table.settles finished answer put (taken_of refused (Some (record { reply = record { unique = b.q.unique; body = said }; sent = sent }))) new.world
-  pub last : List FolderCall
-  pub gives_up : GivesUp (taken_of refused (Some (record { reply = record { unique = b.q.unique; body = said }; sent = sent }))) put last
-  pub folders_are : folders ≡ first ++ last
+  pub concluded : IsConcluded rules.table rules.settings b refused end folders old.world (Some (record { reply = record { unique = b.q.unique; body = said }; sent = sent })) new.world
 
 module _ {W L C D : Type 0} (rules : Rules W L) (does : Behaviour C D) where
   -- the results of one frame, and whether a version is agreed on before it and afterwards
@@ -253,33 +257,24 @@ module _ {W L C D : Type 0} (rules : Rules W L) (does : Behaviour C D) where
     pub offer : rules.sends old.link (reply_bytes (record { unique = a.q.unique; body = said })) sent new.link
     pub works : (frame : List ℕ) → WorksOff rules.table rules.settings refused a old.at (record { frame = frame; refused = refused; made = made; folders = a.lends ++ more; offer = Some (record { reply = record { unique = a.q.unique; body = said }; sent = sent }); destroyed = false }) new.at
 
-  -- the same for a want that owns its names: so it was not for lack of memory for these that it did not begin
-  pub record RunsOwned (a : Attempt) (old : Environment W L C D) (sent : Sent) (new : Environment W L C D) : Type 0 where
-    pub runs : RunsOut a old sent new
-    pub owned : runs.refused ≢ Some AtBegin
-
   -- a request that uses an open folder and is answered at once
-  pub record IsUsedBy (q : Request) (used : HandleUse) (old : Environment W L C D) (sent : Sent) (new : Environment W L C D) : Type 0 where
+  pub record IsUsedBy (q : Request) (fh : ℕ) (usage : FolderUse) (old : Environment W L C D) (sent : Sent) (new : Environment W L C D) : Type 0 where
     pub meant : ReplyBody
-    pub uses : ByCalls does.keeps old.served.dirs new.served.dirs (λ folders. IsUsed q.node used.fh used.usage folders meant)
+    pub uses : ByCalls does.keeps old.served.dirs new.served.dirs (λ folders. IsUsed q.node fh usage folders meant)
     pub told : IsAnswered rules.sends (record { unique = q.unique; body = meant }) old.link sent new.link
     pub calls_are : new.served.calls ≡ old.served.calls
     pub world_is : new.at ≡ old.at
 
   -- entries of an open folder are returned by a request that begins
-  pub record TellsPage (q : Request) (ask : PageAsk) (old : Environment W L C D) (sent : Sent) (new : Environment W L C D) : Type 0 where
+  pub record TellsPage (q : Request) (fh : ℕ) (usage : FolderUse) (old : Environment W L C D) (sent : Sent) (new : Environment W L C D) : Type 0 where
     pub page : Paged
     pub lent : D
-    pub lends : ByCalls does.keeps old.served.dirs lent (λ folders. LendsPage q.node ask.fh ask.offset ask.size folders page)
+    pub lends : ByCalls does.keeps old.served.dirs lent (λ folders. LendsFor q.node fh usage folders page)
     pub runs : RunsOut (attempt q (page_want q.node page.entries) lends.folders page) (around old.link (record { calls = old.served.calls; dirs = lent }) old.at) sent new
 
-  abbrev pub TellsOut : Request → (fh : ℕ) → FolderUse → Environment W L C D → Sent → Environment W L C D → Type 0
-  TellsOut q fh (ReadEntries offset size) old sent new = TellsPage q (record { fh = fh; offset = offset; size = size }) old sent new
-  TellsOut q fh usage old sent new = ⊥
-
   -- an open folder is used, whatever the frame of the request
-  abbrev pub UsesOut : Request → HandleUse → Environment W L C D → Sent → Environment W L C D → Type 0
-  UsesOut q used old sent new = IsUsedBy q used old sent new ⊎ TellsOut q used.fh used.usage old sent new
+  abbrev pub UsesOut : Request → (fh : ℕ) → FolderUse → Environment W L C D → Sent → Environment W L C D → Type 0
+  UsesOut q fh usage old sent new = IsUsedBy q fh usage old sent new ⊎ TellsPage q fh usage old sent new
 
 -- there was a conflict with another request, and nothing was done
 pub record IsUntouched {W L C D : Type 0} (old new : Environment W L C D) : Type 0 where

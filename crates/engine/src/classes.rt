@@ -1,9 +1,10 @@
 //! Classifying frames by their opcodes.
 
 ghost use Rattle.std.specs.Prelude.{◌≡◌};
+ghost use Rattle.wire.specs.Requests.{IsFramed, opcode_in};
 ghost use Rattle.engine.specs.Classes.{class};
 
-use wire::{DESTROY, INIT, has_reply};
+use wire::{DESTROY, INIT, has_reply, header_of};
 
 /// How a frame is handled.
 #[derive(Clone, Copy, Debug, PartialEq, Eq)]
@@ -42,5 +43,29 @@ pub fn class_of(agreed: bool, opcode: u32) -> Class
         Class::Unexpected
     } else {
         Class::Ignored
+    }
+}
+
+/// A whole frame, and how it is handled.
+#[derive(Clone, Copy)]
+pub struct ClassedFrame<'f> {
+    pub class: Class,
+    pub frame: &'f [u8],
+}
+
+impl<'f> ClassedFrame<'f> {
+    /// Classifies a frame by its opcode.
+    pub fn of(agreed: bool, frame: &'f [u8]) -> ClassedFrame<'f>
+        requires { IsFramed frame.now }
+        ensures class { result.class ≡ class agreed (opcode_in frame.now) }
+        ensures frame { result.frame.now ≡ frame.now }
+    {
+        let Some(header) = header_of(frame) else {
+            unreachable!()
+        };
+        ClassedFrame {
+            class: class_of(agreed, header.opcode),
+            frame,
+        }
     }
 }

@@ -3,16 +3,17 @@
 ghost use Rattle.std.specs.Prelude.{◌≡◌, None, Some};
 ghost use Rattle.wire.specs.Requests.{opcode_in, unique_in, IsFramed};
 ghost use Rattle.wire.specs.declared.opcode.TheConstants.{INIT};
+ghost use Rattle.engine.specs.Classes.{class};
 ghost use Rattle.engine.specs.Reference.{agrees, ending, init_reply_of, negotiated_by};
 ghost use Rattle.engine.specs.Serving.{around, does};
 ghost use Rattle.engine.specs.Walks.{by_rules, stand, HandlesInitFrame, IsHandled, HandlesDestroy, RepliesInit};
 
-use crate::classes::{Class, class_of};
+use crate::classes::{Class, ClassedFrame};
 use crate::ends::SessionEnd;
 use crate::links::Sent;
-use crate::outlet::Outlet;
+use crate::outlet::{Outlet, refuse, reply_done};
 use crate::reach::Reach;
-use crate::requests::{Session, refuse, reply_done};
+use crate::requests::Session;
 use crate::served::Served;
 use backing::Calls;
 use errno::{EIO, ENOMEM, EPROTO};
@@ -70,14 +71,25 @@ fn negotiated_by(operation: Operation<'_>) -> Option<Negotiated>
     }
 }
 
-/// Answers a DESTROY, and says whether it ends the session.
-fn handle_destroy<L: Outlet>(link: &mut L, frame: &[u8], unique: u64) -> (Sent, bool)
-    requires { unique ≡ unique_in frame.now }
-    ensures { HandlesDestroy L.sends frame.now link.old result.0 result.1 link.new }
+/// The number that the reply to a frame repeats.
+fn unique_of(frame: &[u8]) -> u64
+    requires { IsFramed frame.now }
+    ensures { result ≡ unique_in frame.now }
+{
+    let Some(header) = header_of(frame) else {
+        unreachable!()
+    };
+    header.unique
+}
+
+/// Answers a DESTROY, which ends the session unless it is faulty.
+fn handle_destroy<L: Outlet>(link: &mut L, frame: &[u8]) -> Option<SessionEnd>
+    requires { IsFramed frame.now }
+    ensures { HandlesDestroy L.sends frame.now link.old result link.new }
 {
     match decode(frame) {
-        Ok(_) => (reply_done(link, unique), true),
-        Err(fault) => (refuse(link, unique, fault.errno()), false),
+        Ok(request) => ending(Some(reply_done(link, request.unique)), true),
+        Err(fault) => ending(Some(refuse(link, unique_of(frame), fault.errno())), false),
     }
 }
 
@@ -102,8 +114,8 @@ impl Session {
     }
 
     /// Answers an INIT, or its fault.
-    fn handle_init<L: Outlet>(&mut self, link: &mut L, frame: &[u8], unique: u64) -> Sent
-        requires unique { unique ≡ unique_in frame.now }
+    fn handle_init<L: Outlet>(&mut self, link: &mut L, frame: &[u8]) -> Sent
+        requires framed { IsFramed frame.now }
         requires init { opcode_in frame.now ≡ INIT }
         ensures handles { HandlesInitFrame L.sends frame.now self.old.agreed link.old result link.new self.new.agreed }
         ensures settings { self.new.settings ≡ self.old.settings }
@@ -113,7 +125,7 @@ impl Session {
                 Some(answer) => self.reply_init(link, request.unique, answer),
                 None => unreachable!(),
             },
-            Err(fault) => refuse(link, unique, fault.errno()),
+            Err(fault) => refuse(link, unique_of(frame), fault.errno()),
         }
     }
 
@@ -125,29 +137,25 @@ impl Session {
         served: &mut Served<C, D>,
         table: &mut R,
         share: &mut Share<T>,
-        frame: &[u8],
+        arrived: ClassedFrame<'_>,
     ) -> Option<SessionEnd>
         requires free { R.steps.is_free (R.world table.old) }
-        requires framed { IsFramed frame.now }
+        requires framed { IsFramed arrived.frame.now }
+        requires class { arrived.class ≡ class self.old.agreed (opcode_in arrived.frame.now) }
         requires idle { R.steps.is_idle (R.world table.old) }
-        ensures handled { IsHandled (by_rules R.steps self.old.settings L.sends) (does C.gives D.keeps) frame.now
+        ensures handled { IsHandled (by_rules R.steps self.old.settings L.sends) (does C.gives D.keeps) arrived.entry.frame.now
             (around link.old served.old (stand (R.world table.old) self.old.agreed)) result (around link.new served.new (stand (R.world table.new) self.new.agreed)) }
         ensures gains { R.steps.gains (R.world table.old) share.old (R.world table.new) share.new }
         ensures idle { R.steps.is_idle (R.world table.new) }
         ensures settings { self.new.settings ≡ self.old.settings }
     {
         table.attest(); // proof: its law
-        let Some(header) = header_of(frame) else {
-            unreachable!()
-        };
-        match class_of(self.agreed, header.opcode) {
+        let ClassedFrame { class, frame } = arrived;
+        match class {
             Class::Ignored => None,
-            Class::Unexpected => ending(Some(refuse(link, header.unique, EIO)), false),
-            Class::InitFrame => ending(Some(self.handle_init(link, frame, header.unique)), false),
-            Class::DestroyFrame => {
-                let (sent, destroyed) = handle_destroy(link, frame, header.unique);
-                ending(Some(sent), destroyed)
-            }
+            Class::Unexpected => ending(Some(refuse(link, unique_of(frame), EIO)), false),
+            Class::InitFrame => ending(Some(self.handle_init(link, frame)), false),
+            Class::DestroyFrame => handle_destroy(link, frame),
             Class::Asking => ending(self.work_off(rt, link, served, table, share, frame), false),
         }
     }

@@ -16,12 +16,13 @@ mod outlet;
 mod playing;
 mod reach;
 mod requests;
+mod running;
 mod served;
 mod serving;
 mod using;
 
 pub use bytes::{ReplyBytes, SHORT_REPLY};
-pub use classes::{Class, class_of};
+pub use classes::{Class, ClassedFrame, class_of};
 pub use concluding::give_up;
 pub use ends::SessionEnd;
 pub use laws::unserved_are_refused;

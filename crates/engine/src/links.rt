@@ -3,6 +3,7 @@
 ghost use Rattle.std.specs.Prelude.{◌≡◌, ◌≤◌, ℕ, List, [], length, map, vec_capacity};
 ghost use Rattle.engine.specs.Batches.{bytes_of, SendsEach};
 ghost use Rattle.engine.specs.Links.{counted, heard, lost, missed, Heard, IsWithin};
+ghost use Rattle.engine.specs.Reference.{is_taken};
 ghost use Rattle.engine.specs.declared.links.Sent.{Sent};
 
 use crate::bytes::ReplyBytes;
@@ -27,6 +28,18 @@ pub enum Sent {
     Untaken,
     /// The link failed for good.
     Broken,
+}
+
+impl Sent {
+    /// Whether the client has the reply.
+    pub(crate) fn is_taken(self) -> bool
+        ensures { result ≡ is_taken self }
+    {
+        match self {
+            Sent::Taken => true,
+            Sent::Untaken | Sent::Broken => false,
+        }
+    }
 }
 
 /// A stream of bytes from a client.

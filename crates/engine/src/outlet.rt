@@ -1,9 +1,12 @@
 //! Where replies go.
 
 ghost use Rattle.std.specs.Prelude.{◌≡◌, ℕ, List};
+ghost use Rattle.wire.specs.Written.{reply_bytes};
+ghost use Rattle.engine.specs.Replies.{done_reply, refusal};
 ghost use Rattle.engine.specs.declared.links.Sent.{Sent};
 
 use crate::links::{LinkOut, Sent};
+use wire::error_frame;
 
 /// The destination of replies: a link, or a buffer from which a worker puts them into a queue.
 pub trait Outlet {
@@ -29,4 +32,18 @@ impl<L: LinkOut> Outlet for L {
     fn buffered(&mut self, frame: &mut Vec<u8>) -> Sent {
         self.send(frame.as_slice())
     }
+}
+
+/// Offers an error. It does not allocate.
+pub(crate) fn refuse<L: Outlet>(link: &mut L, unique: u64, errno: i32) -> Sent
+    ensures { L.sends link.old (reply_bytes (refusal unique errno)) result link.new }
+{
+    link.header(error_frame(unique, errno))
+}
+
+/// Offers the reply that a request was done, without a body. It does not allocate.
+pub(crate) fn reply_done<L: Outlet>(link: &mut L, unique: u64) -> Sent
+    ensures { L.sends link.old (reply_bytes (done_reply unique)) result link.new }
+{
+    link.header(error_frame(unique, 0))
 }

@@ -1,62 +1,43 @@
-//! Handling one request of a session.
+//! A session, and how it handles one request.
 
-ghost use Rattle.std.specs.Prelude.{◌≡◌, ◌≤◌, [], true, false, length, List, IfNone, IfSome};
+ghost use Rattle.std.specs.Prelude.{◌≡◌, ◌≤◌, true, false, length, IfNone, IfSome};
+ghost use Rattle.wire.specs.Pairs.{pairs_in};
 ghost use Rattle.wire.specs.Requests.{opcode_in, unique_in, IsFramed};
 ghost use Rattle.wire.specs.Written.{reply_bytes};
+ghost use Rattle.ops.specs.Intents.{refusal_errno};
 ghost use Rattle.engine.specs.Classes.{is_unanswered};
-ghost use Rattle.handles.specs.Calls.{FolderCall};
-ghost use Rattle.engine.specs.Reference.{attempt, is_taken, ForgetsAll};
-ghost use Rattle.wire.specs.Pairs.{pairs_in};
-ghost use Rattle.engine.specs.Replies.{done_reply, refusal, TakesMemory};
+ghost use Rattle.engine.specs.Keeping.{KeepsBook, KeepsTerms};
+ghost use Rattle.engine.specs.Reference.{ForgetsAll};
+ghost use Rattle.engine.specs.Replies.{refusal, TakesMemory};
 ghost use Rattle.engine.specs.Serving.{around, does};
-ghost use Rattle.engine.specs.Walks.{begun, by_rules, RunsOut, RunsOwned, IsAnswered, IsUntouched, RunsScript, WorkedOff};
-ghost use Rattle.ops.specs.Intents.{refusal_errno, want_of};
-ghost use Rattle.ops.specs.Pages.{no_page};
+ghost use Rattle.engine.specs.Walks.{by_rules, IsAnswered, WorkedOff};
 
 use crate::links::Sent;
-use crate::outlet::Outlet;
-use crate::playing::play;
+use crate::outlet::{Outlet, refuse, reply_done};
 use crate::reach::Reach;
+use crate::running::{Attempt, Source};
 use crate::served::Served;
-use crate::using::HandleUse;
+use crate::using::FolderRequest;
 use backing::Calls;
 use errno::ENOMEM;
 use handles::Folders;
 use ledger::{Ledgers, Share};
-use ops::{
-    Intent, Paged, Script, ScriptResult, Settings, Wanted, file_reply, intent_of, refusal_errno,
-};
+use ops::{Intent, Settings, file_reply, intent_of, refusal_errno};
 use std::alloc::Global;
 use std::sync::Wait;
-use table::{Begin, Ticket};
-use table_requests::Want;
 use wire::{
-    HEADER_LEN, Reply, ReplyBody, Request, WireFault, decode, error_frame, has_reply, header_of,
-    split_pair, write_reply,
+    HEADER_LEN, Reply, ReplyBody, WireFault, decode, has_reply, header_of, split_pair, write_reply,
 };
 
-/// Whether the client has the reply.
-pub fn is_taken(sent: Sent) -> bool
-    ensures { result ≡ is_taken sent }
-{
-    match sent {
-        Sent::Taken => true,
-        Sent::Untaken | Sent::Broken => false,
-    }
-}
-
-/// Offers an error. It does not allocate.
-pub fn refuse<L: Outlet>(link: &mut L, unique: u64, errno: i32) -> Sent
-    ensures { L.sends link.old (reply_bytes (refusal unique errno)) result link.new }
-{
-    link.header(error_frame(unique, errno))
-}
-
-/// Offers the reply that a request was done, without a body. It does not allocate.
-pub fn reply_done<L: Outlet>(link: &mut L, unique: u64) -> Sent
-    ensures { L.sends link.old (reply_bytes (done_reply unique)) result link.new }
-{
-    link.header(error_frame(unique, 0))
+/// The state of a session, apart from its link, its directory and its table.
+#[derive(Drop)]
+pub struct Session {
+    pub alloc: Global,
+    pub settings: Settings,
+    /// Whether a version is agreed on.
+    pub agreed: bool,
+    /// The buffer in which a reply is written.
+    pub buffer: Vec<u8>,
 }
 
 /// Answers a faulty frame, unless its opcode gets no reply: by its fault, or, where the session does not serve the
@@ -81,17 +62,6 @@ fn refuse_frame<L: Outlet>(
     }
 }
 
-/// The state of a session, apart from its link, its directory and its table.
-#[derive(Drop)]
-pub struct Session {
-    pub alloc: Global,
-    pub settings: Settings,
-    /// Whether a version is agreed on.
-    pub agreed: bool,
-    /// The buffer in which a reply is written.
-    pub buffer: Vec<u8>,
-}
-
 /// Forgets lookups, pair by pair.
 fn forget_all<T: Ledgers, R: Reach<T>>(table: &mut R, share: &mut Share<T>, pairs: &[u8])
     requires idle { R.steps.is_idle (R.world table.old) }
@@ -108,12 +78,24 @@ fn forget_all<T: Ledgers, R: Reach<T>>(table: &mut R, share: &mut Share<T>, pair
 }
 
 impl Session {
+    /// A session that has not agreed on a version yet.
+    pub fn new(alloc: Global, settings: Settings) -> Session
+        ensures settings { result.settings ≡ settings }
+        ensures agreed { result.agreed ≡ false }
+    {
+        Session {
+            alloc,
+            settings,
+            agreed: false,
+            buffer: Vec::new(alloc),
+        }
+    }
+
     /// Offers a reply. None means that memory for it was refused.
-    pub fn offer<L: Outlet>(&mut self, link: &mut L, reply: Reply) -> Option<Sent>
+    pub(crate) fn offer<L: Outlet>(&mut self, link: &mut L, reply: Reply) -> Option<Sent>
         ensures some { IfSome result (λ sent. L.sends link.old (reply_bytes reply) sent link.new) }
         ensures none { IfNone result (TakesMemory reply.body × (link.new ≡ link.old)) }
-        ensures settings { self.new.settings ≡ self.old.settings }
-        ensures agreed { self.new.agreed ≡ self.old.agreed }
+        ensures keeps { KeepsTerms self.old self.new }
     {
         match reply.body {
             ReplyBody::Failed { errno } => return Some(refuse(link, reply.unique, errno)),
@@ -127,10 +109,9 @@ impl Session {
     }
 
     /// Answers a request at once: with the reply, or with ENOMEM if memory for it is refused.
-    pub fn answer<L: Outlet>(&mut self, link: &mut L, reply: Reply) -> Sent
+    pub(crate) fn answer<L: Outlet>(&mut self, link: &mut L, reply: Reply) -> Sent
         ensures said { IsAnswered L.sends reply link.old result link.new }
-        ensures settings { self.new.settings ≡ self.old.settings }
-        ensures agreed { self.new.agreed ≡ self.old.agreed }
+        ensures keeps { KeepsTerms self.old self.new }
     {
         let unique = reply.unique;
         match self.offer(link, reply) {
@@ -139,125 +120,9 @@ impl Session {
         }
     }
 
-    /// Plays the script of a request that has begun, and concludes it. The page is that of a READDIRPLUS.
-    fn run_script<T: Ledgers, R: Reach<T>, L: Outlet, C: Calls, D: Folders>(
-        &mut self,
-        link: &mut L,
-        served: &mut Served<C, D>,
-        table: &mut R,
-        share: &mut Share<T>,
-        request: Request<'_>,
-        ticket: Ticket,
-        page: &Paged,
-    ) -> Sent
-        requires free { R.steps.is_free (R.world table.old) }
-        ensures runs { RunsScript (by_rules R.steps self.old.settings L.sends) (does C.gives D.keeps) (begun request.entry page.now ticket)
-            (around link.old served.old (R.world table.old)) result (around link.new served.new (R.world table.new)) }
-        ensures gains { R.steps.gains (R.world table.old) share.old (R.world table.new) share.new }
-        ensures settings { self.new.settings ≡ self.old.settings }
-        ensures agreed { self.new.agreed ≡ self.old.agreed }
-    {
-        let script = match Script::start(self.alloc, self.settings, request.operation, &ticket) {
-            Ok(script) => script,
-            Err(_) => return self.end_without_script(link, table, share, request, ticket),
-        };
-        match play(&mut served.calls, script) {
-            ScriptResult::Listed(children) => {
-                self.finish_opendir(
-                    &mut served.dirs,
-                    link,
-                    table,
-                    share,
-                    request,
-                    ticket,
-                    children,
-                )
-            }
-            ScriptResult::Looked(looked) => {
-                self.tell_entries(link, table, share, request, ticket, page, looked)
-            }
-            found => {
-                let sent = self.finish_and_reply(link, table, share, request, ticket, found);
-                // A later READ may use the buffer of this reply.
-                served.calls.offer_room(&mut self.buffer);
-                sent
-            }
-        }
-    }
-
-    /// Runs a request from begin to settle. None means that it conflicts with another one and nothing was done: it must
-    /// begin again. The page is that of a READDIRPLUS.
-    pub fn run_request<T: Ledgers, R: Reach<T>, L: Outlet, C: Calls, D: Folders>(
-        &mut self,
-        link: &mut L,
-        served: &mut Served<C, D>,
-        table: &mut R,
-        share: &mut Share<T>,
-        request: Request<'_>,
-        want: Want,
-        page: &Paged,
-    ) -> Option<Sent>
-        requires free { R.steps.is_free (R.world table.old) }
-        requires idle { R.steps.is_idle (R.world table.old) }
-        ensures some { IfSome result (λ sent. (lends : List FolderCall) → RunsOwned (by_rules R.steps self.old.settings L.sends) (does C.gives D.keeps) (attempt request.entry want lends page.now)
-            (around link.old served.old (R.world table.old)) sent (around link.new served.new (R.world table.new))) }
-        ensures none { IfNone result (IsUntouched (around link.old served.old (R.world table.old)) (around link.new served.new (R.world table.new))) }
-        ensures gains { R.steps.gains (R.world table.old) share.old (R.world table.new) share.new }
-        ensures idle { R.steps.is_idle (R.world table.new) }
-        ensures settings { self.new.settings ≡ self.old.settings }
-        ensures agreed { self.new.agreed ≡ self.old.agreed }
-    {
-        match table.begin(request.unique, want) {
-            Begin::Go(ticket) => Some(self.run_script(
-                link, served, table, share, request, ticket, page,
-            )),
-            Begin::Refused(errno) => {
-                let unique = request.unique;
-                let body = ReplyBody::Failed { errno };
-                Some(self.answer(link, Reply { unique, body }))
-            }
-            Begin::Busy => None,
-        }
-    }
-
-    /// Runs a request whose names are in its frame, and begins it again as long as it conflicts with another one.
-    pub fn run_wanted<H: Wait, T: Ledgers, R: Reach<T>, L: Outlet, C: Calls, D: Folders>(
-        &mut self,
-        rt: &H,
-        link: &mut L,
-        served: &mut Served<C, D>,
-        table: &mut R,
-        share: &mut Share<T>,
-        request: Request<'_>,
-        wanted: Wanted<'_>,
-    ) -> Sent
-        requires free { R.steps.is_free (R.world table.old) }
-        requires idle { R.steps.is_idle (R.world table.old) }
-        ensures runs_out { RunsOut (by_rules R.steps self.old.settings L.sends) (does C.gives D.keeps) (attempt request.entry (want_of wanted.entry) [] no_page)
-            (around link.old served.old (R.world table.old)) result (around link.new served.new (R.world table.new)) }
-        ensures gains { R.steps.gains (R.world table.old) share.old (R.world table.new) share.new }
-        ensures idle { R.steps.is_idle (R.world table.new) }
-        ensures settings { self.new.settings ≡ self.old.settings }
-        ensures agreed { self.new.agreed ≡ self.old.agreed }
-    {
-        table.attest(); // proof: its law
-        let none = Paged::none(self.alloc);
-        for _ in rt.forever() {
-            let want = match wanted.own(self.alloc) {
-                Ok(want) => want,
-                Err(_) => return refuse(link, request.unique, ENOMEM),
-            };
-            match self.run_request(link, served, table, share, request, want, &none) {
-                Some(sent) => return sent,
-                None => {}
-            }
-        }
-        unreachable!()
-    }
-
     /// Handles a request of a session that has agreed on a version. If it gets a reply, the result says what became of
     /// that.
-    pub fn work_off<H: Wait, T: Ledgers, R: Reach<T>, L: Outlet, C: Calls, D: Folders>(
+    pub(crate) fn work_off<H: Wait, T: Ledgers, R: Reach<T>, L: Outlet, C: Calls, D: Folders>(
         &mut self,
         rt: &H,
         link: &mut L,
@@ -271,32 +136,29 @@ impl Session {
         requires idle { R.steps.is_idle (R.world table.old) }
         ensures worked { WorkedOff (by_rules R.steps self.old.settings L.sends) (does C.gives D.keeps) frame.now
             (around link.old served.old (R.world table.old)) result (around link.new served.new (R.world table.new)) }
-        ensures gains { R.steps.gains (R.world table.old) share.old (R.world table.new) share.new }
+        ensures keeps { KeepsBook R.steps self.old (R.world table.old) share.old self.new (R.world table.new) share.new }
         ensures idle { R.steps.is_idle (R.world table.new) }
-        ensures settings { self.new.settings ≡ self.old.settings }
-        ensures agreed { self.new.agreed ≡ self.old.agreed }
     {
         table.attest(); // proof: its law
         let request = match decode(frame) {
             Ok(request) => request,
             Err(fault) => return refuse_frame(link, self.settings, frame, fault),
         };
+        let unique = request.unique;
         match intent_of(self.settings, &request) {
-            Intent::Reply(body) => {
-                let unique = request.unique;
-                Some(self.answer(link, Reply { unique, body }))
+            Intent::Reply(body) => Some(self.answer(link, Reply { unique, body })),
+            Intent::Want(wanted) => {
+                let source = Source::Frame(wanted);
+                let attempt = Attempt { request, source };
+                Some(self.run(rt, link, served, table, share, attempt))
             }
-            Intent::Want(wanted) => Some(self.run_wanted(
-                rt, link, served, table, share, request, wanted,
-            )),
             Intent::File { fh } => {
                 let body = file_reply(request.node, table.find(fh));
-                let unique = request.unique;
                 Some(self.answer(link, Reply { unique, body }))
             }
             Intent::Folder { fh, usage } => {
-                let used = HandleUse { fh, usage };
-                Some(self.use_folder(rt, link, served, table, share, request, used))
+                let asked = FolderRequest { request, fh, usage };
+                Some(self.use_folder(rt, link, served, table, share, asked))
             }
             Intent::Forget(lookups) => {
                 table.forget(share, lookups.node, lookups.nlookup);

@@ -1,17 +1,18 @@
 -- The parts of a session that has not begun.
 use Rattle.std.proofs.Common.{◌≡◌, ◌∙◌, ℕ, Bool, false, List, [], Option, Some, None, sym, ap, ap₂}
-use Rattle.std.specs.Prelude.{take}
+use Rattle.std.specs.Prelude.{drop, take}
 use Rattle.std.specs.Option.{option_map}
 use Rattle.crossbeam_channel.specs.Claims.{view}
 use Rattle.ledger.specs.Shares.{Part}
 use Rattle.terms.specs.declared.settings.Settings.{Settings}
-use Rattle.engine_queues.specs.declared.job.Job.{Job}
+use Rattle.engine_turns.specs.declared.job.Job.{Job}
 use Rattle.engine_turns.specs.Queues.{JobQueue, ReplyQueue}
 use Rattle.engine_turns.specs.Reads.{beginning}
 use Rattle.engine_turns.specs.Shown.{queued_of, reading, shown}
 use Rattle.engine_turns.specs.TableCalls.{OnTable}
 use Rattle.engine_turns.specs.Verdicts.{Progress, Queued, Reading}
 use Rattle.engine_turns.specs.declared.reader.Reader.{Reader}
+use Rattle.engine_turns.specs.declared.reader.TheConstants.{GAP}
 use Rattle.engine_turns.specs.declared.working.Worker.{Worker}
 use Rattle.engine_threads.specs.Beginning.{IsReadyAt, IsReadyHere, IsUnread}
 
@@ -38,5 +39,5 @@ pub unread : {L : Type 0} (link : L) (reader : Reader) → IsUnread reader → r
 unfolding made
 unread {L} link reader is =
     ap (λ (p : Progress). let r : Reading L = record { link = link; so_far = p } in r)
-    (made_same reader.cutter.kept (take reader.unkept reader.room.items) reader.agreed (queued_of (view reader.pass).put) (option_map shown reader.last_job) (option_map shown reader.handed_back)
-    is.kept (ap (λ (k : ℕ). take k reader.room.items) is.unkept) is.agreed (ap (λ (js : List Job). queued_of js) is.puts_none) (ap (λ (j : Option Job). option_map shown j) is.no_last_job) (ap (λ (j : Option Job). option_map shown j) is.none_back))
+    (made_same reader.cutter.kept (take reader.unkept (drop GAP reader.room.items)) reader.agreed (queued_of (view reader.pass).put) (option_map shown reader.last_job) (option_map shown reader.handed_back)
+    is.kept (ap (λ (k : ℕ). take k (drop GAP reader.room.items)) is.unkept) is.agreed (ap (λ (js : List Job). queued_of js) is.puts_none) (ap (λ (j : Option Job). option_map shown j) is.no_last_job) (ap (λ (j : Option Job). option_map shown j) is.none_back))

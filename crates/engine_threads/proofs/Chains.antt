@@ -10,7 +10,7 @@ use Rattle.terms.specs.declared.settings.Settings.{Settings}
 use Rattle.engine.proofs.Runs.{chain_append, chain_one}
 use Rattle.engine.specs.Chain.{Chain}
 use Rattle.engine.specs.Serving.{Behaviour}
-use Rattle.engine_queues.specs.declared.job.Job.{Job}
+use Rattle.engine_turns.specs.declared.job.Job.{Job}
 use Rattle.engine_queues.specs.Jobs.{hand}
 use Rattle.engine_queues.specs.Replies.{sender}
 use Rattle.engine_queues.specs.declared.jobs.Hand.{Hand}

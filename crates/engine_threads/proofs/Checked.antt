@@ -10,7 +10,7 @@ use Rattle.engine.specs.declared.links.Sent.{Sent}
 use Rattle.engine_queues.specs.Gathered.{puts_of, takings_of}
 use Rattle.engine_queues.specs.Jobs.{AreTaken, numbers}
 use Rattle.engine_queues.specs.Replies.{AreGot}
-use Rattle.engine_queues.specs.declared.job.Job.{Job}
+use Rattle.engine_turns.specs.declared.job.Job.{Job}
 use Rattle.engine_queues.specs.declared.jobs.Hand.{Hand}
 use Rattle.engine_queues.specs.declared.passes.Passes.{Passes}
 use Rattle.engine_queues.specs.declared.replies.ReplyLane.{ReplyLane}

@@ -7,7 +7,7 @@ use lib.ListN.{get_elem?}
 use Rattle.ledger.specs.Shares.{Part}
 use Rattle.terms.specs.declared.settings.Settings.{Settings}
 use Rattle.engine.specs.Serving.{Behaviour}
-use Rattle.engine_queues.specs.declared.job.Job.{Job}
+use Rattle.engine_turns.specs.declared.job.Job.{Job}
 use Rattle.engine_queues.specs.declared.passes.Passes.{Passes}
 use Rattle.engine_turns.specs.declared.replies.JobReply.{JobReply}
 use Rattle.engine_turns.specs.TableCalls.{OnTable}

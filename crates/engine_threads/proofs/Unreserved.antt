@@ -19,7 +19,7 @@ use Rattle.engine.specs.Reference.{Turn, is_taken}
 use Rattle.engine.specs.Serving.{Behaviour}
 use Rattle.engine.specs.declared.links.Sent.{Sent}
 use Rattle.engine.proofs.Carrying.{Carries, frame_carried}
-use Rattle.engine_queues.specs.declared.job.Job.{Job}
+use Rattle.engine_turns.specs.declared.job.Job.{Job}
 use Rattle.engine_queues.specs.declared.left.Left.{Left}
 use Rattle.engine_queues.specs.declared.replies.QueuedReply.{QueuedReply}
 use Rattle.engine_queues.specs.declared.passes.Passes.{Passes}

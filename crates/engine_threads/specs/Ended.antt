@@ -7,7 +7,7 @@ use Rattle.ledger.specs.declared.shares.Totals.{Totals}
 use Rattle.table_steps.specs.World.{IsLawfulWorld, World}
 use Rattle.engine.specs.declared.ends.SessionEnd.{SessionEnd}
 use Rattle.engine.specs.declared.ends.SessionEnd.TheVariants.{LinkBroken}
-use Rattle.engine_queues.specs.declared.job.Job.{Job}
+use Rattle.engine_turns.specs.declared.job.Job.{Job}
 use Rattle.engine_queues.specs.Gathered.{puts_of, takings_of}
 use Rattle.engine_queues.specs.Jobs.{AreTaken, numbers}
 use Rattle.engine_queues.specs.Replies.{AreGot}

@@ -14,7 +14,7 @@ use Rattle.handles.specs.Calls.{Shares}
 use Rattle.handles.specs.declared.limits.FolderLimits.{FolderLimits}
 use Rattle.engine.specs.Chain.{Chain}
 use Rattle.engine.specs.Serving.{Behaviour, does}
-use Rattle.engine_queues.specs.declared.job.Job.{Job}
+use Rattle.engine_turns.specs.declared.job.Job.{Job}
 use Rattle.engine_queues.specs.Jobs.{hand}
 use Rattle.engine_queues.specs.Replies.{sender}
 use Rattle.engine_queues.specs.declared.jobs.Hand.{Hand}

@@ -9,9 +9,8 @@ ghost use Rattle.engine_threads.specs.Worked.{did, does_shared, made_by, AreSeat
 use crate::origins::Workers;
 use crate::worker_end::WorkerEnd;
 use backing::Calls;
-use engine_queues::Job;
 use engine_queues::passes::Passes;
-use engine_turns::{JobReply, Shares, wait_unless};
+use engine_turns::{Job, JobReply, Shares, wait_unless};
 use ledger::Ledgers;
 use std::sync::Wait;
 use table_shared::{Closed, Opening};

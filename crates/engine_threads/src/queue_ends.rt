@@ -11,13 +11,12 @@ ghost use Rattle.engine_threads.specs.Beginning.{IsNewWorker, IsUnread};
 use crate::turns::JOINED;
 use crossbeam_channel::bounded_with;
 use engine::Settings;
-use engine_queues::Job;
 use engine_queues::jobs::{Cut, Fair, Hand, JobPass, JobReceiver, JobSender};
 use engine_queues::passes::Passes;
 use engine_queues::replies::{
     InOrder, QueuedReply, ReplyLane, ReplyPass, ReplyReceiver, ReplySender, Roles,
 };
-use engine_turns::{JobReply, READ_AT_ONCE, Reader, Worker, Writer};
+use engine_turns::{Job, JobReply, READ_AT_ONCE, Reader, Worker, Writer};
 use std::alloc::Global;
 use wire::HEADER_LEN;
 

@@ -11,12 +11,11 @@ ghost use Rattle.engine_threads.specs.Worked.{AreSeatedAt};
 
 use crate::ended::Passed;
 use crate::queue_ends::Senders;
-use engine_queues::Job;
 use engine_queues::gathering::{gather, put_by, taken_by};
 use engine_queues::jobs::JobPass;
 use engine_queues::passes::Passes;
 use engine_queues::replies::ReplyPass;
-use engine_turns::{JobReply, ReaderEnd, wait_unless};
+use engine_turns::{Job, JobReply, ReaderEnd, wait_unless};
 use std::snapshot::Snapshot;
 use std::sync::Wait;
 

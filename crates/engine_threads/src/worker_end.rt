@@ -10,9 +10,8 @@ use crate::waiting::wait_if_returned;
 use crate::worker_role::WorkerRole;
 use backing::Calls;
 use engine::Served;
-use engine_queues::Job;
 use engine_queues::passes::Passes;
-use engine_turns::{JobReply, TableHandle, ThreadShare, Turn, Worker};
+use engine_turns::{Job, JobReply, TableHandle, ThreadShare, Turn, Worker};
 use handles::Dirs;
 use ledger::{Ledgers, Share};
 use shared_history::ThreadLog;
@@ -52,7 +51,7 @@ fn answer<'a, H: Wait, T: Ledgers, N: Opening, C: Calls>(
     let Some(job) = last_job else {
         return;
     };
-    let rt = table_handle.rt;
+    let rt = table_handle.table_lock.rt;
     match worker.answer(table_handle, share, served, job) {
         Turn::Worked(_settled) => wait_if_returned(rt, worker),
         // A worker counts its replies with 64 bits.

@@ -13,7 +13,7 @@ use Rattle.engine_turns.specs.Rights.{IsRight}
 use Rattle.engine.specs.Batches.{bytes_of}
 use Rattle.engine_turns.specs.ReplyBuffers.{bytes_in}
 use Rattle.engine_turns.specs.Turns.{Means, MeetsJob, Met, Writes, means}
-use Rattle.engine_queues.specs.declared.job.Job.{Job}
+use Rattle.engine_turns.specs.declared.job.Job.{Job}
 use Rattle.engine_turns.specs.declared.working.Turn.{Turn}
 use Rattle.engine_turns.specs.declared.working.Turn.TheVariants.{Worked, Nothing}
 use Rattle.engine.specs.declared.bytes.ReplyBytes.{ReplyBytes}

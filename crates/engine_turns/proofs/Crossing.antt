@@ -27,9 +27,9 @@ use Rattle.crossbeam_channel.specs.contracts.flavors.array.ruled.Receiving as Re
 use Rattle.crossbeam_channel.specs.contracts.flavors.array.ruled.Sending as Sending
 use Rattle.crossbeam_channel.specs.declared.protocol.Protocol as protocol
 use Rattle.engine.proofs.requests.Session.TheSendSync as session
-use Rattle.engine_queues.proofs.job.Job.TheSendSync as job
+use Rattle.engine_turns.proofs.job.Job.TheSendSync as job
 use Rattle.engine_queues.proofs.left.Left.TheSendSync as left
-use Rattle.engine_queues.specs.contracts.job.Job as Job
+use Rattle.engine_turns.specs.contracts.job.Job as Job
 use Rattle.engine_queues.specs.contracts.left.Left as Left
 use Rattle.engine_queues.proofs.replies.QueuedReply.TheSendSync as queued_reply
 use Rattle.engine_queues.specs.contracts.jobs.Fair as Fair

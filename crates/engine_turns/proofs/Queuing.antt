@@ -5,7 +5,7 @@ use Rattle.engine.specs.declared.ends.SessionEnd.{SessionEnd}
 use Rattle.engine.specs.declared.ends.SessionEnd.TheVariants as ends
 use Rattle.engine_turns.specs.Verdicts.{EndsSession, IsVerdict, Progress, Queued, Queueing, Queues, QueuesAll, Stops, Tells}
 use Rattle.engine_turns.specs.Shown.{queued_of, shown}
-use Rattle.engine_queues.specs.declared.job.Job.{Job}
+use Rattle.engine_turns.specs.declared.job.Job.{Job}
 
 pub queued_snoc : (js : List Job) (j : Job) → queued_of (js ++ j ∷ []) ≡ queued_of js ++ shown j ∷ []
 queued_snoc [] j = refl

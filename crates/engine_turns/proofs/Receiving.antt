@@ -2,6 +2,7 @@
 use Rattle.std.proofs.Common.{◌≡◌, ℕ, ◌+◌, ◌↔◌, Bool, List, [], ◌++◌, take, drop, Option, Some, None, IfSome, IfNone, Result, Ok, Err, IfOk, inl, inr, refl, sym, ap, ◌∙◌, subst}
 use Rattle.std.proofs.Math.Logic.{∥∥₁_map}
 use Rattle.std.proofs.Math.Seq.{take-add}
+use Rattle.std.proofs.lemmas.List.{drop-drop, drop-take}
 use Rattle.engine.specs.Links.{Heard, Piece}
 use Rattle.engine.specs.declared.ends.SessionEnd.{SessionEnd}
 use Rattle.wire.specs.Stream.{BeginsBadly, Cutting, HandsOut, IsPartial, StoppedBy}
@@ -9,9 +10,16 @@ use Rattle.wire.specs.declared.cutter.CutFault.{CutFault}
 use Rattle.wire.specs.declared.cutter.CutFault.TheVariants as fault
 use Rattle.engine_turns.specs.Verdicts.{KeepsNone, Progress, Queued, QueuesAll, Reads, and_then, with_unkept}
 
--- the bytes at the front, followed by those that came after them
-pub front_grown : (old new : List ℕ) (from count : ℕ) → take from new ≡ take from old → take (from + count) new ≡ take from old ++ take count (drop from new)
-front_grown old new from count same = take-add from count new ∙ ap (λ (bytes : List ℕ). bytes ++ take count (drop from new)) same
+-- the bytes behind the gap, where all up to there are the same
+pub behind_same : (old new : List ℕ) (gap from : ℕ) → take (gap + from) new ≡ take (gap + from) old → take from (drop gap new) ≡ take from (drop gap old)
+behind_same old new gap from same = sym (drop-take gap from new) ∙ (ap (λ (bytes : List ℕ). drop gap bytes) same ∙ drop-take gap from old)
+
+-- they are followed by those that came after them
+pub behind_grown : (old new : List ℕ) (gap from count : ℕ) → take (gap + from) new ≡ take (gap + from) old → take (from + count) (drop gap new) ≡ take from (drop gap old) ++ take count (drop (gap + from) new)
+behind_grown old new gap from count same =
+    take-add from count (drop gap new)
+    ∙ (ap (λ (bytes : List ℕ). bytes ++ take count (drop from (drop gap new))) (behind_same old new gap from same)
+    ∙ ap (λ (bytes : List ℕ). take from (drop gap old) ++ take count bytes) (drop-drop from gap new))
 
 -- a cutter that returned something, or took bytes, was not stopped
 pub not_stopped : {A : Type 0} (k k' : Cutting) (told : A) (r : Result A CutFault) → r ≡ Ok told → ((len : ℕ) → (r ≡ Err (fault.BadLength len)) ↔ BeginsBadly k.kept len) → k'.stopped ≡ k.stopped → ∥ StoppedBy k.kept k.stopped ∥₁ → ∥ StoppedBy k'.kept k'.stopped ∥₁
@@ -55,6 +63,9 @@ module _ {L : Type 0} (receives : L → Heard → L → Type 0) (link link' : L)
 module _ (agreed : Bool) (put : List Queued) (last_job handed_back : Option Queued) where
   abbrev pub got : (kept unkept : List ℕ) → Progress
   got kept unkept = record { kept = kept; unkept = unkept; agreed = agreed; put = put; last_job = last_job; handed_back = handed_back }
+
+  pub same_kept : (kept unkept unkept' : List ℕ) → unkept' ≡ unkept → got kept unkept' ≡ got kept unkept
+  same_kept kept unkept unkept' same = ap (λ (us : List ℕ). got kept us) same
 
   pub all_kept : (kept kept' unkept grown bytes : List ℕ) → kept' ≡ kept ++ grown → grown ≡ unkept ++ bytes → got kept' [] ≡ and_then (got kept unkept) bytes
   all_kept kept kept' unkept grown bytes k g = ap (λ (ks : List ℕ). got ks []) (k ∙ ap (λ (bs : List ℕ). kept ++ bs) g)

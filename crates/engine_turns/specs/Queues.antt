@@ -8,7 +8,7 @@ use Rattle.crossbeam_channel.specs.declared.flavors.array.Lockers.{Lockers}
 use Rattle.crossbeam_channel.specs.declared.flavors.array.Rounds.{Rounds}
 use Rattle.crossbeam_channel.specs.declared.flavors.array.Rows.{Rows}
 use Rattle.crossbeam_channel.specs.declared.flavors.array.Whole.{Whole}
-use Rattle.engine_queues.specs.declared.job.Job.{Job}
+use Rattle.engine_turns.specs.declared.job.Job.{Job}
 use Rattle.engine_queues.specs.declared.jobs.Fair.{Fair}
 use Rattle.engine_queues.specs.declared.jobs.Hand.{Hand}
 use Rattle.engine_queues.specs.declared.replies.InOrder.{InOrder}

@@ -7,7 +7,7 @@ use Rattle.engine.specs.Classes.{class}
 use Rattle.engine.specs.Reference.{HandlesFrame, Offer, Turn}
 use Rattle.engine.specs.declared.links.Sent.TheVariants.{Taken}
 use Rattle.engine_turns.specs.TableCalls.{Fresh, OnTable, TurnEnd, left_in, known_table}
-use Rattle.engine_queues.specs.declared.job.Job.{Job}
+use Rattle.engine_turns.specs.declared.job.Job.{Job}
 use Rattle.engine_queues.specs.declared.left.Left.{Left}
 
 -- what the rules say about a job, with the calls that were made for it and their answers: those on the table are added

@@ -1,10 +1,11 @@
 -- Jobs as frames with verdicts, and how far a reader is, as the code represents it.
-use Rattle.std.specs.Prelude.{List, map, take}
+use Rattle.std.specs.Prelude.{List, drop, map, take}
 use Rattle.std.specs.Option.{option_map}
 use Rattle.crossbeam_channel.specs.Claims.{view}
-use Rattle.engine_queues.specs.declared.job.Job.{Job}
+use Rattle.engine_turns.specs.declared.job.Job.{Job}
 use Rattle.engine_turns.specs.Verdicts.{Progress, Queued, Reading}
 use Rattle.engine_turns.specs.declared.reader.Reader.{Reader}
+use Rattle.engine_turns.specs.declared.reader.TheConstants.{GAP}
 
 abbrev pub shown : Job → Queued
 shown job = record { agreed = job.agreed; frame = job.frame.items }
@@ -15,7 +16,7 @@ queued_of jobs = map shown jobs
 abbrev pub progress : Reader → Progress
 progress reader = record {
   kept = reader.cutter.kept;
-  unkept = take reader.unkept reader.room.items;
+  unkept = take reader.unkept (drop GAP reader.room.items);
   agreed = reader.agreed;
   put = queued_of (view reader.pass).put;
   last_job = option_map shown reader.last_job;

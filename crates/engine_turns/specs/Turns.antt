@@ -23,7 +23,7 @@ use Rattle.engine_queues.specs.declared.replies.QueuedReply.{QueuedReply}
 use Rattle.engine_turns.specs.TableCalls.{Fresh, GainsListed, OnTable, TurnEnd, left_in, settled_in, settlement_of, then_all}
 use Rattle.engine_turns.specs.Rights.{IsJobHandled}
 use Rattle.engine.specs.Batches.{bytes_of}
-use Rattle.engine_queues.specs.declared.job.Job.{Job}
+use Rattle.engine_turns.specs.declared.job.Job.{Job}
 use Rattle.engine_queues.specs.declared.left.Left.{Left}
 use Rattle.engine_turns.specs.declared.replies.JobReply.{JobReply}
 

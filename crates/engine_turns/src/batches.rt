@@ -9,6 +9,7 @@ ghost use Rattle.engine_turns.specs.Turns.{ByBoth};
 
 use crate::replies::JobReply;
 use crate::settling::settle_left;
+use crate::table_lock::TableLock;
 use engine::{LinkOut, ReplyBytes, Sent};
 use engine_queues::Left;
 use handles::Folders;
@@ -17,7 +18,7 @@ use shared_history::ThreadLog;
 use std::alloc::{AllocError, Global};
 use std::sync::Wait;
 use table::Settled;
-use table_shared::{LogEntry, Opening, Runs, SharedTable};
+use table_shared::{LogEntry, Opening, Runs};
 
 /// How many replies are offered together at most.
 pub const BATCH: usize = 16;
@@ -126,8 +127,7 @@ impl Batch {
     /// Settles each answer according to what became of its reply.
     pub(crate) fn settle<H: Wait, T: Ledgers, O: Opening, D: Folders>(
         &mut self,
-        rt: &H,
-        shared_table: &SharedTable<T, O>,
+        table_lock: &TableLock<'_, H, T, O>,
         thread_log: &mut ThreadLog<LogEntry<T>, Runs<O>>,
         share: &mut Share<T>,
         dirs: &mut D,
@@ -142,7 +142,7 @@ impl Batch {
         for at in 0..self.left.len() {
             let left = take_at(&mut self.left, at);
             let taken = is_taken_at(self.sent.as_slice(), at);
-            let settled = settle_left(rt, shared_table, thread_log, share, dirs, left, taken);
+            let settled = settle_left(table_lock, thread_log, share, dirs, left, taken);
             self.settled.push_reserved(settled);
         }
     }

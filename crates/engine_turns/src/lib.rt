@@ -5,7 +5,9 @@
 #![tactic(auto)]
 
 mod batches;
+mod job;
 mod known;
+mod meeting;
 mod origins;
 mod reader;
 mod reader_role;
@@ -16,6 +18,7 @@ mod settling;
 mod shares;
 mod sleepers;
 pub mod table_handle;
+mod table_lock;
 mod verdicts;
 mod waiting;
 mod working;
@@ -23,6 +26,7 @@ mod writer_role;
 mod writing;
 
 pub use batches::{BATCH, Batch};
+pub use job::Job;
 pub use origins::{Sink, Source};
 pub use reader::{READ_AT_ONCE, Reader};
 pub use reader_role::ReaderRole;
@@ -31,6 +35,7 @@ pub use replies::JobReply;
 pub use shares::{Shares, ThreadShare};
 pub use sleepers::Sleepers;
 pub use table_handle::{TableHandle, TurnResult};
+pub use table_lock::TableLock;
 pub use waiting::wait_unless;
 pub use working::{Turn, Worker};
 pub use writer_role::{WriterEnd, WriterRole};

@@ -1,23 +1,25 @@
 //! Cutting frames from a link and queueing a job for each.
 
-ghost use Rattle.std.specs.Prelude.{◌≡◌, ◌<◌, ◌≤◌, ◌-◌, ◌++◌, ◌∷◌, [], false, drop, length, map, take, vec_len, IfOk, IsTrue, IsFalse, None, Some};
+ghost use Rattle.std.specs.Prelude.{◌≡◌, ◌<◌, ◌≤◌, ◌+◌, ◌-◌, ◌++◌, ◌∷◌, [], false, drop, length, map, take, vec_len, IfOk, IsTrue, IsFalse, None, Some};
 ghost use Rattle.crossbeam_channel.specs.Claims.{view, IsSeatAt};
 ghost use Rattle.crossbeam_channel.specs.Ends.{sends_on};
 ghost use Rattle.engine.specs.Links.{heard, IsWithin};
 ghost use Rattle.engine_queues.specs.Jobs.{numbers};
-ghost use Rattle.wire.specs.Requests.{IsFramed};
 ghost use Rattle.wire.specs.Stream.{StoppedBy};
+ghost use Rattle.engine_turns.specs.declared.reader.TheConstants.{GAP, READ_AT_ONCE};
 
-use crate::verdicts::{agrees_after, ends_session};
+use crate::job::Job;
 use engine::{LinkIn, Received, SessionEnd};
-use engine_queues::Job;
 use engine_queues::jobs::{JobPass, JobSender, Puts};
 use std::alloc::{AllocError, Global};
 use std::sync::Wait;
-use wire::{CutFault, Cutter, Frame};
+use wire::{CutFault, Cutter, MAX_FRAME_LEN};
 
 /// How many bytes a receive may bring: more than the longest frame has.
 pub const READ_AT_ONCE: usize = 131_072;
+
+/// How many bytes of room there are before those that a receive brings, for the kept part of an unfinished frame.
+pub const GAP: usize = MAX_FRAME_LEN;
 
 #[derive(Drop)]
 pub struct Reader {
@@ -26,15 +28,16 @@ pub struct Reader {
     pub next: u64,
     pub agreed: bool,
     pub cutter: Cutter,
-    /// The buffer for what a receive brings.
+    /// The buffer for what a receive brings, with a gap before it.
     pub room: Vec<u8>,
-    /// How many bytes at the front of the buffer were received but could not be kept by the cutter.
+    /// How many bytes behind the gap were received but could not be kept by the cutter.
     pub unkept: usize,
     /// The job of the frame that ended the session, if one did. It is not queued.
     pub last_job: Option<Job>,
     /// The job that the queue returned, if it did, or for which no number was left. It is not queued.
     pub handed_back: Option<Job>,
-    ghost within: { unkept ≤ vec_len room },
+    ghost within: { unkept ≤ READ_AT_ONCE },
+    ghost room_len: { GAP + READ_AT_ONCE ≤ vec_len room },
     ghost stopped_by: { ∥ StoppedBy cutter.kept cutter.stopped ∥₁ },
     ghost seated: { IsSeatAt (sends_on to) pass },
     ghost some_part: { 0 < (view pass).parts },
@@ -43,26 +46,16 @@ pub struct Reader {
     ghost numbered: { map (λ j. j.ordinal) (view pass).put ≡ numbers 0 (length (view pass).put) },
 }
 
-/// Makes one receive, which does not change the bytes before `from`.
-fn receive_behind<L: LinkIn>(link: &mut L, room: &mut [u8], from: usize) -> Received
-    requires { from ≤ length room.old }
-    ensures within { IsWithin result (length room.new - from) }
+/// Makes one receive into the buffer from `from` up to `to`, which does not change the bytes before.
+fn receive_between<L: LinkIn>(link: &mut L, room: &mut [u8], from: usize, to: usize) -> Received
+    requires order { from ≤ to }
+    requires within { to ≤ length room.old }
+    ensures within { IsWithin result (to - from) }
     ensures brought { L.receives link.old (heard result (drop from room.new)) link.new }
     ensures front { take from room.new ≡ take from room.old }
     ensures len { length room.new ≡ length room.old }
 {
-    link.receive(&mut room[from..])
-}
-
-fn job_of(ordinal: u64, agreed: bool, frame: Frame) -> Job
-    requires { IsFramed frame.items }
-    ensures { (result.ordinal ≡ ordinal) × (result.agreed ≡ agreed) × (result.frame ≡ frame) }
-{
-    Job {
-        ordinal,
-        agreed,
-        frame,
-    }
+    link.receive(&mut room[from..to])
 }
 
 impl Reader {
@@ -82,7 +75,7 @@ impl Reader {
         ensures none_back { IfOk result (λ r. (r.unkept ≡ 0) × (r.handed_back ≡ None)) }
     {
         let mut room = Vec::new(alloc);
-        room.resize(READ_AT_ONCE, 0)?;
+        room.resize(GAP + READ_AT_ONCE, 0)?;
         Ok(Reader {
             to,
             pass,
@@ -96,23 +89,18 @@ impl Reader {
         })
     }
 
-    /// Queues a job for a frame. False means that the queue returned the job, which is then kept in `handed_back`.
-    fn queue<H: Wait>(&mut self, rt: &H, frame: Frame) -> bool
-        requires { IsFramed frame.items }
-        ensures yes { IsTrue result → (queued_of (view self.new.pass).put ≡ queued_of (view self.old.pass).put ++ record { agreed = self.old.agreed; frame = frame.items } ∷ []) × IsVerdict self.old.agreed frame.items self.new.agreed × (self.new.handed_back ≡ self.old.handed_back) }
-        ensures no { IsFalse result → (queued_of (view self.new.pass).put ≡ queued_of (view self.old.pass).put) × (self.new.agreed ≡ self.old.agreed) × (option_map shown self.new.handed_back ≡ Some (record { agreed = self.old.agreed; frame = frame.items })) }
+    /// Queues a job. False means that the queue returned it, and it is then kept in `handed_back`.
+    fn queue<H: Wait>(&mut self, rt: &H, job: Job) -> bool
+        requires { job.ordinal ≡ self.old.next }
+        ensures yes { IsTrue result → (queued_of (view self.new.pass).put ≡ queued_of (view self.old.pass).put ++ shown job ∷ []) × IsVerdict job.agreed job.frame.items self.new.agreed × (self.new.handed_back ≡ self.old.handed_back) }
+        ensures no { IsFalse result → (queued_of (view self.new.pass).put ≡ queued_of (view self.old.pass).put) × (self.new.agreed ≡ self.old.agreed) × (option_map shown self.new.handed_back ≡ Some (shown job)) }
         ensures queue { sends_on self.new.to ≡ sends_on self.old.to }
         ensures parts { (view self.new.pass).parts ≡ (view self.old.pass).parts }
         ensures cutter { self.new.cutter ≡ self.old.cutter }
         ensures room { (self.new.room ≡ self.old.room) × (self.new.unkept ≡ self.old.unkept) }
         ensures last_job { self.new.last_job ≡ self.old.last_job }
     {
-        let agreed = agrees_after(self.agreed, frame.as_slice());
-        let job = Job {
-            ordinal: self.next,
-            agreed: self.agreed,
-            frame,
-        };
+        let agreed = job.agrees_after();
         let Some(after) = self.next.checked_add(1) else {
             self.handed_back = Some(job);
             return false;
@@ -141,13 +129,14 @@ impl Reader {
             match self.cutter.next() {
                 Ok(None) => return None,
                 Ok(Some(frame)) => {
-                    if ends_session(self.agreed, frame.as_slice()) {
-                        self.last_job = Some(job_of(self.next, self.agreed, frame));
+                    let job = Job::new(self.next, self.agreed, frame);
+                    if job.ends_session() {
+                        self.last_job = Some(job);
                         return Some(SessionEnd::Destroyed);
                     }
                     // This ends the session as lack of memory does, and not as a broken link: a link breaks only at a
                     // receive or a send. It does not happen, since the workers hold receivers of the queue.
-                    if !self.queue(rt, frame) {
+                    if !self.queue(rt, job) {
                         return Some(SessionEnd::Memory);
                     }
                 }
@@ -157,14 +146,16 @@ impl Reader {
         }
     }
 
-    /// Makes one receive, and queues a job for each frame that is then whole. What is received and cannot be kept stays
-    /// in the buffer, and the next turn that can keep it does so, if there is one.
+    /// Makes one receive, and queues a job for each frame that is then whole. The bytes stay where they were received,
+    /// and those that were kept before are copied in front of them if they are fewer. What cannot be kept stays in the
+    /// buffer, and the next turn that can keep it does so, if there is one.
     pub fn turn<H: Wait, L: LinkIn>(&mut self, rt: &H, link: &mut L) -> Option<SessionEnd>
         ensures reads { Reads L.receives (reading link.old self.old) result (reading link.new self.new) }
         ensures queue { sends_on self.new.to ≡ sends_on self.old.to }
         ensures parts { (view self.new.pass).parts ≡ (view self.old.pass).parts }
     {
-        match receive_behind(link, self.room.as_mut_slice(), self.unkept) {
+        let end = GAP + READ_AT_ONCE;
+        match receive_between(link, self.room.as_mut_slice(), GAP + self.unkept, end) {
             Received::Bytes(count) => self.unkept += count,
             Received::End => {
                 return Some(SessionEnd::Closed {
@@ -173,7 +164,7 @@ impl Reader {
             }
             Received::Broken => return Some(SessionEnd::LinkBroken),
         }
-        match self.cutter.feed(&self.room[..self.unkept]) {
+        match self.cutter.feed_from(&mut self.room, GAP, self.unkept) {
             Ok(()) => {
                 self.unkept = 0;
                 self.queue_all(rt)

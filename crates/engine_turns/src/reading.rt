@@ -5,9 +5,9 @@ ghost use Rattle.crossbeam_channel.specs.Claims.{view, IsSeatAt};
 ghost use Rattle.crossbeam_channel.specs.Ends.{sends_on};
 ghost use Rattle.engine_queues.specs.Jobs.{numbers};
 
+use crate::job::Job;
 use crate::reader::Reader;
 use engine::SessionEnd;
-use engine_queues::Job;
 use engine_queues::jobs::JobPass;
 
 /// What is left of a reader that has ended.

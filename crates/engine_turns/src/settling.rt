@@ -4,6 +4,7 @@ ghost use Rattle.std.specs.Prelude.{◌≡◌};
 ghost use Rattle.engine_turns.specs.TableCalls.{on_table_of};
 ghost use Rattle.engine_turns.specs.Turns.{ByBoth, IsEnded, ending};
 
+use crate::table_lock::TableLock;
 use engine::give_up;
 use engine_queues::Left;
 use handles::Folders;
@@ -11,12 +12,11 @@ use ledger::{Ledgers, Share};
 use shared_history::ThreadLog;
 use std::sync::Wait;
 use table::Settled;
-use table_shared::{LogEntry, Opening, Runs, SharedTable};
+use table_shared::{LogEntry, Opening, Runs};
 
 /// Settles the answer. If a listing was stored for it and its reply was not taken, the listing's handle is closed.
 pub(crate) fn settle_left<H: Wait, T: Ledgers, O: Opening, D: Folders>(
-    rt: &H,
-    shared_table: &SharedTable<T, O>,
+    table_lock: &TableLock<'_, H, T, O>,
     thread_log: &mut ThreadLog<LogEntry<T>, Runs<O>>,
     share: &mut Share<T>,
     dirs: &mut D,
@@ -31,7 +31,9 @@ pub(crate) fn settle_left<H: Wait, T: Ledgers, O: Opening, D: Folders>(
         return None;
     };
     let (answered, put) = left.into_parts();
-    let settled = shared_table.settle(rt, thread_log, share, answered, taken);
+    let settled = table_lock
+        .shared_table
+        .settle(table_lock.rt, thread_log, share, answered, taken);
     give_up(dirs, put, taken);
     Some(settled)
 }

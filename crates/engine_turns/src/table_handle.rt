@@ -1,8 +1,9 @@
 //! A thread's handle to the shared table: the calls that it makes on the table, and their results in one turn.
 
 ghost use Rattle.std.specs.Prelude.{◌≡◌};
-ghost use Rattle.engine_turns.specs.TableCalls.{Fresh, HasBits, turn_end_of};
+ghost use Rattle.engine_turns.specs.TableCalls.{Fresh, HasBits, left_in, settled_in, turn_end_of};
 
+use crate::table_lock::TableLock;
 use engine::Reach;
 use engine_queues::Left;
 use ledger::{Ledgers, Share};
@@ -24,11 +25,24 @@ pub enum TurnResult {
     Settled(Settled),
 }
 
+impl TurnResult {
+    /// The answer to be settled, and the settle that was made.
+    pub(crate) fn into_parts(self) -> (Option<Left>, Option<Settled>)
+        ensures left { result.0 ≡ left_in (turn_end_of self) }
+        ensures settled { result.1 ≡ settled_in (turn_end_of self) }
+    {
+        match self {
+            TurnResult::Nothing | TurnResult::Answer(_) => (None, None),
+            TurnResult::Left(left) => (Some(left), None),
+            TurnResult::Settled(settled) => (None, Some(settled)),
+        }
+    }
+}
+
 /// A thread's access to the table, with its log, and the result of its turn.
 #[derive(Drop)]
 pub struct TableHandle<'a, H: Wait, T: Ledgers, O: Opening> {
-    pub rt: &'a H,
-    pub shared_table: &'a SharedTable<T, O>,
+    pub table_lock: TableLock<'a, H, T, O>,
     pub thread_log: ThreadLog<LogEntry<T>, Runs<O>>,
     pub turn_result: TurnResult,
 }
@@ -43,8 +57,7 @@ impl<'a, H: Wait, T: Ledgers, O: Opening> TableHandle<'a, H, T, O> {
         ensures { result.thread_log ≡ thread_log }
     {
         TableHandle {
-            rt,
-            shared_table,
+            table_lock: TableLock { rt, shared_table },
             thread_log,
             turn_result: TurnResult::Nothing,
         }
@@ -55,8 +68,7 @@ impl<'a, H: Wait, T: Ledgers, O: Opening> TableHandle<'a, H, T, O> {
         ensures { result ≡ self.entry.thread_log }
     {
         let TableHandle {
-            rt: _,
-            shared_table: _,
+            table_lock: _,
             thread_log,
             turn_result: _,
         } = self;
@@ -87,16 +99,21 @@ impl<'a, H: Wait, T: Ledgers, O: Opening> Reach<T> for TableHandle<'a, H, T, O> 
 
     fn begin(&mut self, unique: u64, want: Want) -> Begin {
         let begin = self
+            .table_lock
             .shared_table
-            .begin(self.rt, &mut self.thread_log, unique, want);
+            .begin(self.table_lock.rt, &mut self.thread_log, unique, want);
         has_bits(&begin); // proof: of an error
         begin
     }
 
     fn finish(&mut self, share: &mut Share<T>, ticket: Ticket, outcome: Outcome) -> Answered {
-        let answered = self
-            .shared_table
-            .finish(self.rt, &mut self.thread_log, share, ticket, outcome);
+        let answered = self.table_lock.shared_table.finish(
+            self.table_lock.rt,
+            &mut self.thread_log,
+            share,
+            ticket,
+            outcome,
+        );
         self.turn_result = TurnResult::Answer(Snapshot::of(&answered));
         answered
     }
@@ -105,21 +122,28 @@ impl<'a, H: Wait, T: Ledgers, O: Opening> Reach<T> for TableHandle<'a, H, T, O> 
         if taken {
             self.turn_result = TurnResult::Left(Left { answered, put });
         } else {
-            let settled = self
-                .shared_table
-                .settle(self.rt, &mut self.thread_log, share, answered, false);
+            let settled = self.table_lock.shared_table.settle(
+                self.table_lock.rt,
+                &mut self.thread_log,
+                share,
+                answered,
+                false,
+            );
             self.turn_result = TurnResult::Settled(settled);
         }
     }
 
     fn forget(&mut self, share: &mut Share<T>, number: u64, n: u64) {
         let _ = self
+            .table_lock
             .shared_table
-            .forget(self.rt, &mut self.thread_log, share, number, n);
+            .forget(self.table_lock.rt, &mut self.thread_log, share, number, n);
     }
 
     fn find(&mut self, fh: u64) -> Option<OpenFile> {
-        self.shared_table.find(self.rt, &mut self.thread_log, fh)
+        self.table_lock
+            .shared_table
+            .find(self.table_lock.rt, &mut self.thread_log, fh)
     }
 
     ghost gains_on = { laws.gains_on };

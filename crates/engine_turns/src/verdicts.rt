@@ -1,13 +1,12 @@
-//! What frames mean for the session, found out before they are handled.
+//! What the frame of a job means for the session, found out before it is handled.
 
 ghost use Rattle.std.specs.Prelude.{◌≡◌, IsTrue, IsFalse};
-ghost use Rattle.wire.specs.Requests.{IsFramed, opcode_in};
-ghost use Rattle.engine.specs.Classes.{class};
 ghost use Rattle.engine.specs.Reference.{negotiated_by};
 ghost use Rattle.engine_turns.specs.Verdicts.{greeted, EndsSession, IsVerdict};
 
-use engine::{Class, class_of};
-use wire::{Negotiated, Operation, decode, header_of, negotiate};
+use crate::job::Job;
+use engine::Class;
+use wire::{Negotiated, Operation, decode, negotiate};
 
 /// Whether a version is agreed on by an operation, or was before.
 fn greeted(operation: Operation<'_>, before: bool) -> bool
@@ -27,34 +26,28 @@ fn greeted(operation: Operation<'_>, before: bool) -> bool
     }
 }
 
-/// Whether a version is agreed on after a frame.
-pub(crate) fn agrees_after(before: bool, frame: &[u8]) -> bool
-    requires { IsFramed frame.now }
-    ensures { IsVerdict before frame.now result }
-{
-    let Some(header) = header_of(frame) else {
-        unreachable!()
-    };
-    match class_of(before, header.opcode) {
-        Class::InitFrame => match decode(frame) {
-            Ok(request) => greeted(request.operation, before),
-            Err(_fault) => before,
-        },
-        Class::Ignored | Class::Unexpected | Class::DestroyFrame | Class::Asking => before,
+impl Job {
+    /// Whether a version is agreed on after its frame.
+    pub(crate) fn agrees_after(&self) -> bool
+        ensures { IsVerdict self.now.agreed self.now.frame.items result }
+    {
+        match self.class {
+            Class::InitFrame => match decode(self.frame.as_slice()) {
+                Ok(request) => greeted(request.operation, self.agreed),
+                Err(_fault) => self.agreed,
+            },
+            Class::Ignored | Class::Unexpected | Class::DestroyFrame | Class::Asking => self.agreed,
+        }
     }
-}
 
-/// Whether the client ends the session with a frame.
-pub(crate) fn ends_session(agreed: bool, frame: &[u8]) -> bool
-    requires { IsFramed frame.now }
-    ensures yes { IsTrue result → EndsSession agreed frame.now }
-    ensures no { IsFalse result → EndsSession agreed frame.now → ⊥ }
-{
-    let Some(header) = header_of(frame) else {
-        unreachable!()
-    };
-    match class_of(agreed, header.opcode) {
-        Class::DestroyFrame => decode(frame).is_ok(),
-        Class::Ignored | Class::Unexpected | Class::InitFrame | Class::Asking => false,
+    /// Whether the client ends the session with its frame.
+    pub(crate) fn ends_session(&self) -> bool
+        ensures yes { IsTrue result → EndsSession self.now.agreed self.now.frame.items }
+        ensures no { IsFalse result → EndsSession self.now.agreed self.now.frame.items → ⊥ }
+    {
+        match self.class {
+            Class::DestroyFrame => decode(self.frame.as_slice()).is_ok(),
+            Class::Ignored | Class::Unexpected | Class::InitFrame | Class::Asking => false,
+        }
     }
 }

@@ -1,19 +1,19 @@
 //! A worker's turns.
 
-ghost use Rattle.std.specs.Prelude.{◌≡◌, ◌<◌, ◌+◌, ◌^◌, ◌⊎◌, length, true, Some, Option, List, ℕ};
+ghost use Rattle.std.specs.Prelude.{◌≡◌, ◌<◌, ◌+◌, ◌^◌, ◌⊎◌, length, true, Some, Option};
 ghost use Rattle.crossbeam_channel.specs.Claims.{view, IsSeatAt};
 ghost use Rattle.crossbeam_channel.specs.Ends.{sends_on, receives_on};
 ghost use Rattle.table_steps.specs.Answers.{Settlement};
 ghost use Rattle.engine.specs.Batches.{bytes_of};
-ghost use Rattle.engine.specs.Reference.{Turn as IsHandled};
 ghost use Rattle.engine.specs.Serving.{does};
-ghost use Rattle.engine_turns.specs.TableCalls.{left_in, on_table_of, settled_in, turn_end_of};
+ghost use Rattle.engine_turns.specs.TableCalls.{left_in, on_table_of, turn_end_of};
 ghost use Rattle.engine_turns.specs.Rights.{IsRight};
 ghost use Rattle.engine_turns.specs.ReplyBuffers.{bytes_in};
-ghost use Rattle.engine_turns.specs.Turns.{AnswersJob, ByBoth, MeetsJob, PutsReply, Worked, ending, means, outbox, standing};
+ghost use Rattle.engine_turns.specs.Turns.{AnswersJob, ByBoth, PutsReply, Worked, ending, means, outbox, standing};
 
+use crate::job::Job;
+use crate::meeting::meet_job;
 use crate::replies::JobReply;
-use crate::reply_buffer::ReplyBuffer;
 use crate::settling::settle_left;
 use crate::table_handle::{TableHandle, TurnResult};
 use backing::Calls;
@@ -21,11 +21,9 @@ use engine::{ReplyBytes, Served, Session, Settings};
 use engine_queues::jobs::{JobPass, JobReceiver, Takes};
 use engine_queues::passes::Passes;
 use engine_queues::replies::{Posts, QueuedReply, ReplyPass, ReplySender};
-use engine_queues::{Job, Left};
 use handles::Folders;
 use ledger::{Ledgers, Share};
 use std::alloc::Global;
-use std::snapshot::Snapshot;
 use std::sync::Wait;
 use table::Settled;
 use table_shared::Opening;
@@ -37,56 +35,6 @@ pub enum Turn {
     Worked(Option<Settled>),
     /// It handled none: there was none, or a count of the worker is at its maximum.
     Nothing,
-}
-
-/// Handles a job by the rules of a session. Returns the reply, and what happened in the table.
-fn meet_job<'a, H: Wait, T: Ledgers, O: Opening, C: Calls, D: Folders>(
-    session: &mut Session,
-    table_handle: &mut TableHandle<'a, H, T, O>,
-    share: &mut Share<T>,
-    served: &mut Served<C, D>,
-    job: &Job,
-) -> (Option<ReplyBytes>, TurnResult)
-    ensures meets { MeetsJob (does C.gives D.keeps) session.old.settings job.now (means served.old share.old (on_table_of table_handle.old.thread_log)) (record { said = bytes_in result.0; turn_end = turn_end_of result.1 }) (means served.new share.new (on_table_of table_handle.new.thread_log)) }
-    ensures settings { session.new.settings ≡ session.old.settings }
-{
-    session.agreed = job.agreed;
-    let mut reply_buffer = ReplyBuffer::new(session.alloc);
-    let _ = table_handle.take_end();
-    session.handle_frame(
-        table_handle.rt,
-        &mut reply_buffer,
-        served,
-        table_handle,
-        share,
-        job.frame.as_slice(),
-    );
-    (reply_buffer.into_said(), table_handle.take_end())
-}
-
-/// The answer to be settled, and the settle that was made.
-fn parted(turn_result: TurnResult) -> (Option<Left>, Option<Settled>)
-    ensures left { result.0 ≡ left_in (turn_end_of turn_result) }
-    ensures settled { result.1 ≡ settled_in (turn_end_of turn_result) }
-{
-    match turn_result {
-        TurnResult::Nothing | TurnResult::Answer(_) => (None, None),
-        TurnResult::Left(left) => (Some(left), None),
-        TurnResult::Settled(settled) => (None, Some(settled)),
-    }
-}
-
-/// The reply to a job, which is the right one.
-fn reply_to(settings: Settings, job: &Job, bytes: ReplyBytes, left: Option<Left>) -> JobReply
-    requires { IsRight settings job.now (bytes_of bytes) left }
-    ensures { (result.settings ≡ settings) × (result.job.value ≡ job.now) × (result.bytes ≡ bytes) × (result.left ≡ left) }
-{
-    JobReply {
-        settings,
-        job: Snapshot::of(job),
-        bytes,
-        left,
-    }
 }
 
 /// A worker: it takes jobs, and puts a reply for each that gets one into the queue.
@@ -137,12 +85,7 @@ impl Worker {
             job_pass,
             reply_pass,
         } = passes;
-        let session = Session {
-            alloc,
-            settings,
-            agreed: false,
-            buffer: Vec::new(alloc),
-        };
+        let session = Session::new(alloc, settings);
         Worker {
             number,
             session,
@@ -203,18 +146,19 @@ impl Worker {
         ensures jobs { (self.new.jobs ≡ self.old.jobs) × (view self.new.job_pass ≡ view self.old.job_pass) }
         ensures queue { (sends_on self.new.replies ≡ sends_on self.old.replies) × (self.new.number ≡ self.old.number) × (self.new.session ≡ self.old.session) }
     {
-        let (left, settled) = parted(turn_result);
+        let (left, settled) = turn_result.into_parts();
         let Some(bytes) = said else {
             return settled;
         };
         let queued_reply = QueuedReply {
             from: self.number,
-            reply: reply_to(self.session.settings, job, bytes, left),
+            reply: JobReply::new(self.session.settings, job, bytes, left),
         };
-        match self
-            .replies
-            .send_as::<Posts, H>(table_handle.rt, &mut self.reply_pass, queued_reply)
-        {
+        match self.replies.send_as::<Posts, H>(
+            table_handle.table_lock.rt,
+            &mut self.reply_pass,
+            queued_reply,
+        ) {
             Ok(()) => {
                 self.put += 1;
                 settled
@@ -223,10 +167,8 @@ impl Worker {
                 self.handed_back += 1;
                 let QueuedReply { from: _, reply } = back.into_inner();
                 let left = reply.into_left();
-                let (rt, shared_table) = (table_handle.rt, table_handle.shared_table);
                 let untaken = settle_left(
-                    rt,
-                    shared_table,
+                    &table_handle.table_lock,
                     &mut table_handle.thread_log,
                     share,
                     dirs,
@@ -305,7 +247,7 @@ impl Worker {
         };
         match self
             .jobs
-            .try_recv_as::<Takes, H>(table_handle.rt, &mut self.job_pass)
+            .try_recv_as::<Takes, H>(table_handle.table_lock.rt, &mut self.job_pass)
         {
             Ok(job) => {
                 self.taken = after;

@@ -11,6 +11,7 @@ ghost use Rattle.engine_turns.specs.Writes.{none_got, writing, HasWritten};
 use crate::origins::Sink;
 use crate::replies::JobReply;
 use crate::shares::ThreadShare;
+use crate::table_lock::TableLock;
 use crate::writing::Writer;
 use engine::LinkOut;
 use engine_queues::replies::ReplyPass;
@@ -89,9 +90,8 @@ impl<T: Ledgers, N: Opening, O: LinkOut + Drop, S: Sink<O>> WriterRole<T, N, O, 
         ensures index { self.new.kept.share.index ≡ self.old.kept.share.index }
     {
         self.writer.turns(
-            rt,
+            &TableLock { rt, shared_table },
             &mut self.link,
-            shared_table,
             &mut self.thread_log,
             &mut self.kept.share,
             dirs,

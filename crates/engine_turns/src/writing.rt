@@ -9,6 +9,7 @@ ghost use Rattle.engine_turns.specs.Turns.{ByBoth};
 
 use crate::batches::{BATCH, Batch};
 use crate::replies::JobReply;
+use crate::table_lock::TableLock;
 use engine::LinkOut;
 use engine_queues::replies::{Gets, QueuedReply, ReplyPass, ReplyReceiver};
 use handles::Folders;
@@ -16,7 +17,7 @@ use ledger::{Ledgers, Share};
 use shared_history::ThreadLog;
 use std::alloc::{AllocError, Global};
 use std::sync::Wait;
-use table_shared::{LogEntry, Opening, Runs, SharedTable};
+use table_shared::{LogEntry, Opening, Runs};
 
 /// A writer: it offers replies, in the order of their queue.
 #[derive(Drop)]
@@ -107,9 +108,8 @@ impl Writer {
     /// the link took its reply. It does not wait for replies, and returns how many there were.
     pub fn turns<H: Wait, T: Ledgers, O: Opening, L: LinkOut, D: Folders>(
         &mut self,
-        rt: &H,
+        table_lock: &TableLock<'_, H, T, O>,
         link: &mut L,
-        shared_table: &SharedTable<T, O>,
         thread_log: &mut ThreadLog<LogEntry<T>, Runs<O>>,
         share: &mut Share<T>,
         dirs: &mut D,
@@ -123,9 +123,9 @@ impl Writer {
         ensures entries { share.new.totals.entries ≡ share.old.totals.entries }
         ensures index { share.new.index ≡ share.old.index }
     {
-        self.take_queued(rt);
+        self.take_queued(table_lock.rt);
         self.is_broken = self.batch.offer(link, self.is_broken);
-        self.batch.settle(rt, shared_table, thread_log, share, dirs);
+        self.batch.settle(table_lock, thread_log, share, dirs);
         self.batch.settled.len()
     }
 }

@@ -3,11 +3,13 @@
 ghost use Rattle.std.specs.Prelude.{ℕ, List, [], ◌≡◌, ◌<◌, ◌≤◌, ◌^◌, ◌++◌, IsTrue, IfOk, OnOk, codes, length, take};
 ghost use Rattle.disk.specs.Names.{IsLawfulName, IsLinkText};
 ghost use Rattle.linux_disk.specs.Calls.{Done, Looked, LookedAt, Inspected, OpenedAgain, OpenedDir, OpenedDirAt, OpenedFile, Read, Wrote, SetLen, Synced, Set, SetAt, MadeFile, MadeDir, ReadLink, MadeLink, RemovedFile, RemovedFileAt, RemovedDir, RemovedDirAt, Renamed};
+ghost use Rattle.terms.specs.declared.settings.Kinds.{Kinds as Shown};
 ghost use Rattle.linux_disk.specs.Places.{IsBelow, IsReached, IsSafe, way_to};
 
 use crate::page::Page;
 use disk::{Access, Change, DiskError, Stat};
 use std::alloc::AllocError;
+use terms::Kinds;
 
 /// A system. What is handed to it is one lawful name below a folder that is open, or behind a guard some, and nothing else. Each call is made once: one that a signal
 /// ended (EINTR) has failed.
@@ -45,6 +47,9 @@ pub trait SystemCalls {
     /// Which permission bits the process's mask takes of what is made.
     ghost mask: { Self → ℕ };
 
+    /// Of which kinds a look shows what stands there.
+    ghost kinds: { Self → Shown };
+
     /// The same system once more, for another thread. No stamp comes twice.
     fn share(&self) -> Result<Self, AllocError>;
 
@@ -63,6 +68,10 @@ pub trait SystemCalls {
     /// Which permission bits the process's mask takes.
     fn mask(&self) -> u32
         ensures { result ≡ mask self.now };
+
+    /// Of which kinds a look shows what stands there.
+    fn kinds(&self) -> Kinds
+        ensures { result ≡ kinds self.now };
 
     /// Milliseconds by a clock that does not go back, 0 where there is none.
     fn milliseconds(&self) -> u64;

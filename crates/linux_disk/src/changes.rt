@@ -1,9 +1,14 @@
-//! What is set, as the C library takes it.
+//! What is set: as the C library takes it, and by which of its calls.
 
 ghost use Rattle.std.specs.Prelude.{◌≡◌, IfSome};
 ghost use Rattle.linux_disk.specs.Changes.{owner_number, time_words};
 
+use crate::page::Page;
+use crate::returned::expect_done;
+use crate::stat::PERMISSION_BITS;
 use backing::NewTime;
+use disk::{Change, DiskError};
+use errno::{EACCES, EINVAL};
 use libc::types::timespec;
 
 /// The nanoseconds that stand for the time at which the call is made.
@@ -16,7 +21,7 @@ const STAYS: u32 = u32::MAX;
 const NANOS: u32 = 1_000_000_000;
 
 /// What the system takes for an owner or a group, if it has such a number: it has none of 32 ones.
-pub fn owner_number(owner: Option<u32>) -> Option<u32>
+fn owner_number(owner: Option<u32>) -> Option<u32>
     ensures { result ≡ owner_number owner }
 {
     match owner {
@@ -26,7 +31,7 @@ pub fn owner_number(owner: Option<u32>) -> Option<u32>
 }
 
 /// What the system takes for a time, if it has less than a second of nanoseconds.
-pub fn time_words(time: Option<NewTime>) -> Option<timespec>
+fn time_words(time: Option<NewTime>) -> Option<timespec>
     ensures { result ≡ time_words time }
 {
     match time {
@@ -48,5 +53,44 @@ pub fn time_words(time: Option<NewTime>) -> Option<timespec>
                 None
             }
         }
+    }
+}
+
+/// Of what is open: `fchmod`, `fchown` or `futimens`.
+pub fn set_open(fd: i32, change: Change) -> Result<(), DiskError> {
+    match change {
+        Change::Permissions(bits) => expect_done(libc::fchmod(fd, bits & PERMISSION_BITS)),
+        Change::Owner { uid, gid } => match (owner_number(uid), owner_number(gid)) {
+            (Some(owner), Some(group)) => expect_done(libc::fchown(fd, owner, group)),
+            _ => Err(DiskError::Failed(EINVAL)),
+        },
+        Change::Times { accessed, modified } => set_times(fd, accessed, modified),
+    }
+}
+
+/// One `futimens`.
+fn set_times(
+    fd: i32,
+    accessed: Option<NewTime>,
+    modified: Option<NewTime>,
+) -> Result<(), DiskError> {
+    match (time_words(accessed), time_words(modified)) {
+        (Some(accessed), Some(modified)) => expect_done(libc::futimens(fd, &[accessed, modified])),
+        _ => Err(DiskError::Failed(EINVAL)),
+    }
+}
+
+/// Of what stands there: `chmod`, which follows a link, or `lchown`.
+pub fn set_named(path: &Page, change: Change) -> Result<(), DiskError> {
+    let path = path.c_string();
+    match change {
+        Change::Permissions(bits) => {
+            expect_done(unsafe { libc::chmod(path, bits & PERMISSION_BITS) })
+        }
+        Change::Owner { uid, gid } => match (owner_number(uid), owner_number(gid)) {
+            (Some(owner), Some(group)) => expect_done(unsafe { libc::lchown(path, owner, group) }),
+            _ => Err(DiskError::Failed(EINVAL)),
+        },
+        Change::Times { .. } => Err(DiskError::Failed(EACCES)),
     }
 }

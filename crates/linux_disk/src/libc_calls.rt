@@ -1,20 +1,17 @@
 //! Linux's calls, through the C library.
 
-ghost use Rattle.std.specs.Prelude.{◌≡◌, ◌<◌, ◌≤◌, ◌^◌, pos, IfOk, length};
-ghost use Rattle.linux_disk.specs.Stats.{AreShown};
+ghost use Rattle.std.specs.Prelude.{◌≡◌, ◌<◌, ◌≤◌, ◌^◌, pos, length};
 
 use crate::calls::SystemCalls;
-use crate::changes::{owner_number, time_words};
+use crate::changes::{set_named, set_open};
 use crate::errors::failure_of;
 use crate::mask::read_mask;
 use crate::open_fd::{OpenFd, Rewound};
 use crate::page::Page;
 use crate::returned::{count_of, expect_done, last_failure, owned};
-use crate::stat::{PERMISSION_BITS, stat_of};
-use crate::unfilled::new_statx;
-use backing::NewTime;
+use crate::stat::look;
 use disk::{Access, Change, DiskError, Stat};
-use errno::{EACCES, EBADF, EINVAL, EIO};
+use errno::{EBADF, EIO};
 use libc::types::timespec;
 use std::alloc::{AllocError, Global};
 use std::os::fd::AsRawFd;
@@ -87,6 +84,8 @@ impl SystemCalls for LibC {
 
     ghost mask = { λ s. s.mask };
 
+    ghost kinds = { λ s. s.kinds };
+
     fn share(&self) -> Result<LibC, AllocError> {
         Ok(LibC {
             stamps: Arc::try_clone(&self.stamps)?,
@@ -110,6 +109,10 @@ impl SystemCalls for LibC {
 
     fn mask(&self) -> u32 {
         self.mask
+    }
+
+    fn kinds(&self) -> Kinds {
+        self.kinds
     }
 
     fn milliseconds(&self) -> u64 {
@@ -239,34 +242,12 @@ impl SystemCalls for LibC {
         expect_done(libc::fsync(fd.fd.as_raw_fd()))
     }
 
-    /// `fchmod`, `fchown` or `futimens`.
     fn set(&self, fd: &OpenFd, change: Change) -> Result<(), DiskError> {
-        let fd = fd.fd.as_raw_fd();
-        match change {
-            Change::Permissions(bits) => expect_done(libc::fchmod(fd, bits & PERMISSION_BITS)),
-            Change::Owner { uid, gid } => match (owner_number(uid), owner_number(gid)) {
-                (Some(owner), Some(group)) => expect_done(libc::fchown(fd, owner, group)),
-                _ => Err(DiskError::Failed(EINVAL)),
-            },
-            Change::Times { accessed, modified } => set_times(fd, accessed, modified),
-        }
+        set_open(fd.fd.as_raw_fd(), change)
     }
 
-    /// `chmod`, which follows a link, or `lchown`.
     fn set_at(&self, _dir: &OpenFd, path: &Page, change: Change) -> Result<(), DiskError> {
-        let path = path.c_string();
-        match change {
-            Change::Permissions(bits) => {
-                expect_done(unsafe { libc::chmod(path, bits & PERMISSION_BITS) })
-            }
-            Change::Owner { uid, gid } => match (owner_number(uid), owner_number(gid)) {
-                (Some(owner), Some(group)) => {
-                    expect_done(unsafe { libc::lchown(path, owner, group) })
-                }
-                _ => Err(DiskError::Failed(EINVAL)),
-            },
-            Change::Times { .. } => Err(DiskError::Failed(EACCES)),
-        }
+        set_named(path, change)
     }
 
     /// `lseek`.
@@ -294,35 +275,5 @@ impl SystemCalls for LibC {
             0 => Ok(n),
             errno => Err(failure_of(errno)),
         }
-    }
-}
-
-/// One `statx`.
-fn look(kinds: Kinds, dir: i32, name: &Page, flags: i32) -> Result<Stat, DiskError>
-    ensures { IfOk result (λ stat. AreShown kinds stat.kind) }
-{
-    let mut told = new_statx();
-    let ret = unsafe {
-        libc::statx(
-            dir,
-            name.c_string(),
-            flags,
-            libc::STATX_BASIC_STATS,
-            &mut told,
-        )
-    };
-    expect_done(ret)?;
-    Ok(stat_of(kinds, &told))
-}
-
-/// One `futimens`.
-fn set_times(
-    fd: i32,
-    accessed: Option<NewTime>,
-    modified: Option<NewTime>,
-) -> Result<(), DiskError> {
-    match (time_words(accessed), time_words(modified)) {
-        (Some(accessed), Some(modified)) => expect_done(libc::futimens(fd, &[accessed, modified])),
-        _ => Err(DiskError::Failed(EINVAL)),
     }
 }

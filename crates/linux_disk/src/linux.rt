@@ -13,7 +13,7 @@ use disk::DiskError;
 use errno::{ENOENT, ENOMEM};
 use std::alloc::{AllocError, Global};
 use std::sync::Arc;
-use std::sync::atomic::{AtomicU64, Ordering};
+use std::sync::atomic::{AtomicBool, AtomicU64, Ordering};
 
 /// What those who serve the same folder tell one another.
 #[derive(Drop)]
@@ -24,6 +24,8 @@ pub(crate) struct Counts {
     changes: AtomicU64,
     /// How often the rights of a folder were set.
     rights: AtomicU64,
+    /// Whether there was ever more than one of them.
+    shared: AtomicBool,
 }
 
 impl Counts {
@@ -32,6 +34,7 @@ impl Counts {
             moves: AtomicU64::new(0),
             changes: AtomicU64::new(0),
             rights: AtomicU64::new(0),
+            shared: AtomicBool::new(false),
         }
     }
 
@@ -45,6 +48,15 @@ impl Counts {
 
     pub(crate) fn rights(&self) -> u64 {
         self.rights.load(Ordering::SeqCst)
+    }
+
+    pub(crate) fn is_shared(&self) -> bool {
+        self.shared.load(Ordering::SeqCst)
+    }
+
+    /// There is one more of them from now on.
+    fn note_share(&self) {
+        self.shared.store(true, Ordering::SeqCst);
     }
 
     /// A folder was removed or moved, or may have been.
@@ -123,6 +135,7 @@ impl<C: SystemCalls + Drop, S: FileStore<Fd = C::Fd> + Drop> Linux<C, S> {
     fn share_parts(&self) -> Result<(C, S, Arc<Counts>, Guard<C>), AllocError> {
         let calls = self.calls.share()?;
         let store = self.store.share()?;
+        self.counts.note_share();
         let counts = Arc::try_clone(&self.counts)?;
         let guard = self.guard.share()?;
         Ok((calls, store, counts, guard))

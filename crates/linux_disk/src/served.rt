@@ -1,7 +1,8 @@
 //! A folder of Linux as a system. Which call of Linux's each one is, the function that it calls says.
 
-ghost use Rattle.std.specs.Prelude.{◌≡◌, ◌⊎◌, ◌≤◌, ◌++◌, false, None, IfOk, OnOk, length, take};
+ghost use Rattle.std.specs.Prelude.{◌≡◌, ◌⊎◌, ◌≤◌, ◌++◌, false, None, IsTrue, IfOk, OnOk, length, take};
 ghost use Rattle.disk.specs.Names.{IsLawfulName, IsLinkText};
+ghost use Rattle.terms.specs.declared.settings.Kinds.TheVariants.{All};
 ghost use Rattle.linux_disk.specs.Held.{held_value};
 ghost use Rattle.linux_disk.specs.Below.{EntersDir, HoldsOfOpen, Reaches, WasInspected, WasLooked, WasMadeDir, WasMadeFile, WasMadeLink, WasReadLink, WasRemovedDir, WasRemovedFile, WasRenamed};
 ghost use Rattle.linux_disk.specs.Calls.{Done, OpenedAgain, Read, Wrote, SetLen, Synced};
@@ -18,6 +19,7 @@ use disk::{Access, Change, DiskError, Stat, System};
 use errno::EFBIG;
 use paths::Name;
 use std::alloc::Global;
+use terms::Kinds;
 
 /// No file of the system has a byte at this place or behind it.
 const END: u64 = 1 << 63;
@@ -43,6 +45,16 @@ impl<C: SystemCalls + Drop, S: FileStore<Fd = C::Fd> + Drop> System for Linux<C,
 
     fn note_move(&self) {
         self.counts.note_move();
+    }
+
+    fn is_shared(&self) -> bool {
+        self.counts.is_shared()
+    }
+
+    fn shows_all(&self) -> bool
+        ensures { IsTrue result → C.kinds self.now.calls ≡ All }
+    {
+        matches!(self.calls.kinds(), Kinds::All)
     }
 
     fn keeps_files(&self) -> bool {

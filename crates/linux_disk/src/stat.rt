@@ -1,9 +1,12 @@
 //! What a look tells.
 
-ghost use Rattle.std.specs.Prelude.{◌≡◌};
-ghost use Rattle.linux_disk.specs.Stats.{details_of, device_of, kind_of, shown, size_of, stat_of, time_of};
+ghost use Rattle.std.specs.Prelude.{◌≡◌, IfOk};
+ghost use Rattle.linux_disk.specs.Stats.{AreShown, details_of, device_of, kind_of, shown, size_of, stat_of, time_of};
 
-use disk::{FileId, Stat};
+use crate::page::Page;
+use crate::returned::expect_done;
+use crate::unfilled::new_statx;
+use disk::{DiskError, FileId, Stat};
 use libc::types::{statx, statx_timestamp};
 use payload::{Details, Kind, Special, Time};
 use terms::Kinds;
@@ -104,4 +107,22 @@ fn time_of(time: &statx_timestamp) -> Time
         seconds: time.tv_sec.cast_unsigned(),
         nanos: time.tv_nsec,
     }
+}
+
+/// What stands at the name, or what is open where there is none: one `statx`.
+pub fn look(kinds: Kinds, dir: i32, name: &Page, flags: i32) -> Result<Stat, DiskError>
+    ensures { IfOk result (λ stat. AreShown kinds stat.kind) }
+{
+    let mut told = new_statx();
+    let ret = unsafe {
+        libc::statx(
+            dir,
+            name.c_string(),
+            flags,
+            libc::STATX_BASIC_STATS,
+            &mut told,
+        )
+    };
+    expect_done(ret)?;
+    Ok(stat_of(kinds, &told))
 }

@@ -6,6 +6,7 @@ mod command;
 mod faults;
 mod options;
 mod refusals;
+mod values;
 
 pub use arguments::DEFAULT_POSTINGS;
 pub use faults::{Failure, Fault, tell};

@@ -112,7 +112,7 @@ fn run_asked<
                 kinds,
                 postings,
             };
-            run_hex(rt, served, input, output, faults)
+            run_hex(rt, served, Streams { input, output }, faults)
         }
         Options::Refused(refusal) => refuse(refusal, output, faults),
     }

@@ -25,7 +25,7 @@ pub record AreServed {I O : Type 0} (by : Behaviours I O ℕ) (terms : Terms) (g
   pub served : ∥ ((history : List Made) × HasServed by (limits_of terms.bounds) terms.settings account.passed account.sums.totals given back history) ∥₁
   pub ends : EndsAs account.passed.input account.passed.is_broken over
 
--- nothing was received, offered or called, since memory was refused, or their number is not from 1 to 4
+-- what was given comes back as it was, since memory was refused, or their number is not from 1 to 4
 pub record AreUnserved {I O : Type 0} (workers : ℕ) (given : Ground I O ℕ) (over : SessionEnd) (back : Ground I O ℕ) : Type 0 where
   pub why : (over ≡ end.Memory) ⊎ ((over ≡ end.NoWorkers) × ((workers ≡ 0) ⊎ (4 < workers)))
   pub back_is : back ≡ given

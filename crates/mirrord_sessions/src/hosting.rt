@@ -6,7 +6,7 @@ ghost use Rattle.mirrord_sessions.specs.Known.{known_calls, ServesKnown};
 ghost use Rattle.mirrord_sessions.specs.Sessions.{folder_limits, ServesLink};
 
 use backing::{Calls, KnownTree};
-use engine::{Link, Served, SessionEnd, serve};
+use engine::{Link, Served, Session, SessionEnd, serve};
 use handles::Dirs;
 use ledger::{Blanks, Ledgers};
 use std::alloc::Global;
@@ -24,22 +24,33 @@ pub struct Finished<C: Drop> {
     pub calls: C,
 }
 
+/// What the table of a session is opened with.
+#[derive(Clone, Copy)]
+struct TableTerms {
+    alloc: Global,
+    seeds: Seeds,
+    terms: Terms,
+}
+
 /// Serves a directory and these open folders over a link, with a table that has one share.
 fn serve_new<H: Wait, T: Ledgers, L: Link, C: Calls + Drop>(
     rt: &H,
-    alloc: Global,
     blanks: Blanks,
-    seeds: Seeds,
+    with: TableTerms,
     tree: C,
     dirs: &Dirs,
     link: &mut L,
-    terms: Terms,
 ) -> Finished<C>
     requires names { blanks ≡ T.names }
     requires shares { T.names.parts ≡ 1 }
     requires limits { dirs.now ≡ folder_limits }
-    ensures { ServesLink terms (traffic L.receives L.sends) C.gives tree result.calls link.old result.end link.new }
+    ensures { ServesLink with.terms (traffic L.receives L.sends) C.gives tree result.calls link.old result.end link.new }
 {
+    let TableTerms {
+        alloc,
+        seeds,
+        terms,
+    } = with;
     let opened = Table::<T>::open(alloc, terms.limits(), seeds, blanks, 1);
     let Ok((mut table, mut shares)) = opened else {
         return Finished {
@@ -50,15 +61,8 @@ fn serve_new<H: Wait, T: Ledgers, L: Link, C: Calls + Drop>(
     let mut share = shares.pop().unwrap();
     shares.destroy_empty();
     let mut served = Served { calls: tree, dirs };
-    let end = serve(
-        rt,
-        alloc,
-        link,
-        &mut served,
-        &mut table,
-        &mut share,
-        terms.settings,
-    );
+    let session = Session::new(alloc, terms.settings);
+    let end = serve(rt, session, link, &mut served, &mut table, &mut share);
     share.leave();
     Finished {
         end,
@@ -69,19 +73,17 @@ fn serve_new<H: Wait, T: Ledgers, L: Link, C: Calls + Drop>(
 /// The same with open folders of its own.
 fn serve_link<H: Wait, T: Ledgers, L: Link, C: Calls + Drop>(
     rt: &H,
-    alloc: Global,
     blanks: Blanks,
-    seeds: Seeds,
+    with: TableTerms,
     tree: C,
     link: &mut L,
-    terms: Terms,
 ) -> Finished<C>
     requires names { blanks ≡ T.names }
     requires shares { T.names.parts ≡ 1 }
-    ensures { ServesLink terms (traffic L.receives L.sends) C.gives tree result.calls link.old result.end link.new }
+    ensures { ServesLink with.terms (traffic L.receives L.sends) C.gives tree result.calls link.old result.end link.new }
 {
-    match Dirs::new(alloc) {
-        Ok(dirs) => serve_new::<H, T, L, C>(rt, alloc, blanks, seeds, tree, &dirs, link, terms),
+    match Dirs::new(with.alloc) {
+        Ok(dirs) => serve_new::<H, T, L, C>(rt, blanks, with, tree, &dirs, link),
         Err(_) => Finished {
             end: SessionEnd::Memory,
             calls: tree,
@@ -100,7 +102,12 @@ pub fn serve_alone<H: Wait, L: Link, C: Calls + Drop>(
 ) -> Finished<C>
     ensures { ServesLink terms (traffic L.receives L.sends) C.gives tree result.calls link.old result.end link.new }
 {
-    serve_link::<H, Brand, L, C>(rt, alloc, Blanks::new(1), seeds, tree, link, terms)
+    let with = TableTerms {
+        alloc,
+        seeds,
+        terms,
+    };
+    serve_link::<H, Brand, L, C>(rt, Blanks::new(1), with, tree, link)
 }
 
 /// The same for a directory whose tree is known.

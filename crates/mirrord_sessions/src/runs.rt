@@ -64,18 +64,25 @@ fn serve_new<H: Wait, I: BufRead + Drop, O: Write + Drop>(
     serve_known(rt, alloc, seeds, tree, link, terms).end
 }
 
+/// What a client writes, and where it reads its replies.
+#[derive(Drop)]
+pub struct Streams<I: Drop, O: Drop> {
+    pub input: I,
+    pub output: O,
+}
+
 /// Serves a tree in memory over hexadecimal lines: the program `hex` without its command line.
 pub fn hex_run<H: Wait, I: BufRead + Drop, O: Write + Drop, F: Write>(
     rt: &H,
     alloc: Global,
     served: TreeServed,
     seeds: Seeds,
-    input: I,
-    output: O,
+    streams: Streams<I, O>,
     faults: &mut F,
 ) -> ProgramEnd<O>
-    ensures { RunsHex served (I.remaining input) (O.contents output) (O.contents result.output) (F.contents faults.old) (F.contents faults.new) result.status result.told }
+    ensures { RunsHex served (I.remaining streams.input) (O.contents streams.output) (O.contents result.output) (F.contents faults.old) (F.contents faults.new) result.status result.told }
 {
+    let Streams { input, output } = streams;
     let mut link = HexLink::new(alloc, input, output);
     let end = serve_new(rt, alloc, served, seeds, &mut link);
     let failure = failure_of(end, link.cause());
@@ -91,32 +98,24 @@ pub fn hex_run<H: Wait, I: BufRead + Drop, O: Write + Drop, F: Write>(
 pub fn run_hex<H: Wait + RandomSource + AllocGlobal, I: BufRead + Drop, O: Write + Drop, F: Write>(
     rt: &H,
     served: TreeServed,
-    input: I,
-    output: O,
+    streams: Streams<I, O>,
     faults: &mut F,
 ) -> ProgramEnd<O>
-    ensures { RunsSeeded served (I.remaining input) (O.contents output) (O.contents result.output) (F.contents faults.old) (F.contents faults.new) result.status result.told }
+    ensures { RunsSeeded served (I.remaining streams.input) (O.contents streams.output) (O.contents result.output) (F.contents faults.old) (F.contents faults.new) result.status result.told }
 {
     let Ok(seeds) = Seeds::new(rt) else {
         let told = tell(faults, Failure::Stopped(Fault::Seed));
         return ProgramEnd {
             status: 4,
             told,
-            output,
+            output: streams.output,
         };
     };
-    hex_run(rt, rt.alloc(), served, seeds, input, output, faults)
+    hex_run(rt, rt.alloc(), served, seeds, streams, faults)
 }
 
 /// The name of the input of `pipe`.
 const STANDARD_INPUT: &str = "standard input";
-
-/// What a client writes, and where it reads its replies.
-#[derive(Drop)]
-pub struct Streams<I: Drop, O: Drop> {
-    pub input: I,
-    pub output: O,
-}
 
 /// Serves the folder `root` to the client that writes `input` and reads `output`: the program `pipe` without its
 /// command line.

@@ -24,10 +24,20 @@ fn unheard(error: io::Error) -> Unserved
     }
 }
 
-/// The device and the inode number of what is at the path, without following a link there.
-fn identity_of<R: Files<File = File> + AllocGlobal>(rt: &R, path: &str) -> Option<(u64, u64)> {
+/// By which a system tells one file from another.
+#[derive(Clone, Copy, Debug, PartialEq, Eq)]
+struct FileIdentity {
+    device: u64,
+    inode: u64,
+}
+
+/// The identity of what is at the path, without following a link there.
+fn identity_of<R: Files<File = File> + AllocGlobal>(rt: &R, path: &str) -> Option<FileIdentity> {
     match fs::symlink_metadata(rt, path) {
-        Ok(metadata) => Some((metadata.dev(), metadata.ino())),
+        Ok(metadata) => Some(FileIdentity {
+            device: metadata.dev(),
+            inode: metadata.ino(),
+        }),
         Err(_) => None,
     }
 }
@@ -36,7 +46,7 @@ fn identity_of<R: Files<File = File> + AllocGlobal>(rt: &R, path: &str) -> Optio
 #[derive(Drop)]
 pub struct SocketFile {
     listener: UnixListener,
-    made: Option<(u64, u64)>,
+    made: Option<FileIdentity>,
 }
 
 impl SocketFile {
@@ -67,7 +77,7 @@ impl SocketFile {
     }
 
     /// Whether what was found is the file that was created. If that could not be looked at, nothing is.
-    fn is_own(&self, found: Option<(u64, u64)>) -> bool
+    fn is_own(&self, found: Option<FileIdentity>) -> bool
         ensures { Decides result (IsSome self.now.made × (found ≡ self.now.made)) }
     {
         self.made.is_some() && found == self.made

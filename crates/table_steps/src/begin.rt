@@ -1,104 +1,25 @@
 //! The begin of a request.
 
-ghost use Rattle.std.specs.Prelude.{ℕ, ◌≡◌, ◌≤◌, ◌<◌, ◌+◌, ◌*◌, ◌%◌, ◌^◌, if◌then◌else◌, ◌==◌, not, length, ◌↔◌, true, IfErr, IsTrue, OnOk};
+ghost use Rattle.std.specs.Prelude.{◌≡◌, ◌≤◌, ◌<◌, ◌+◌, ◌*◌, ◌%◌, ◌^◌, if◌then◌else◌, ◌==◌, not, length, ◌↔◌, IfErr, IsTrue, OnOk};
 ghost use Rattle.ledger.specs.Sums.{totals_over};
 ghost use Rattle.table_files.specs.OpenEntry.{files_of};
-ghost use Rattle.table_steps.specs.Beginning.{Allows, Forbids, HasHandles, HasPostings, IsHandleUsable, IsRefusedHandle, IsRoomForOne, IsSameButRoom, used_in};
+ghost use Rattle.table_steps.specs.Beginning.{Allows, Forbids, HasHandles, HasPostings, IsHandleUsable, IsRefusedHandle, IsRoomForOne, IsSameButRoom};
 ghost use Rattle.table_requests.specs.Listed.{requests_of};
 ghost use Rattle.table_steps.specs.Kept.{IsKept, tally_of, world_of};
-ghost use Rattle.table_steps.specs.Steps.{Begins, IsUsable, is_cut, is_last};
+ghost use Rattle.table_steps.specs.Steps.{Begins, IsUsable};
 ghost use Rattle.table_steps.specs.World.{IsTally};
 ghost use Rattle.table_footprints.specs.NewRequests.{IsNewRequest};
 ghost use Rattle.table_footprints.specs.Cases.{seen_of};
-ghost use Rattle.table_footprints.specs.Footprints.{AtName, are_same, closed_change, is_same, footprint_of};
 
+use crate::asked::{closed_by, is_last, is_same, used_by};
 use crate::data::{Begin, Ticket};
 use crate::state::State;
 use errno::{EAGAIN, EBADF, ENFILE, ENOMEM};
-use paths::Name;
 use std::alloc::AllocError;
-use table_files::{Files, Need};
+use table_files::Files;
 use table_footprints::{NewRequest, new_request};
-use table_requests::{Case, Handle, Promise, RequestInFlight, Stage, Want, Work};
+use table_requests::{Handle, Promise, RequestInFlight, Stage, Want, Work};
 use terms::Counts;
-
-/// Whether both are the same name under the same node.
-fn is_one_name(parent: u64, name: &Name, other_parent: u64, other: &Name) -> bool
-    ensures { result ≡ are_same (AtName parent name.now) (AtName other_parent other.now) }
-{
-    parent == other_parent && name.is(other)
-}
-
-/// Whether a name is moved to itself, or exchanged with itself.
-fn is_same(want: &Want) -> bool
-    ensures { result ≡ is_same (footprint_of want.now Case.Plain).done }
-{
-    match want {
-        Want::Move {
-            parent,
-            name,
-            new_parent,
-            new_name,
-            ..
-        } => is_one_name(*parent, name, *new_parent, new_name),
-        Want::Exchange {
-            parent,
-            name,
-            new_parent,
-            new_name,
-        } => is_one_name(*parent, name, *new_parent, new_name),
-        Want::Node { .. }
-        | Want::Name { .. }
-        | Want::Remove { .. }
-        | Want::Page { .. }
-        | Want::Open { .. }
-        | Want::Create { .. }
-        | Want::Release { .. } => false,
-    }
-}
-
-/// The handle that the want uses, and the node that its file must belong to.
-fn used_by(want: &Want) -> Option<(u64, Handle)>
-    ensures { used_in result ≡ (footprint_of want.now Case.Plain).used }
-{
-    match want {
-        Want::Node { number, handle } => match handle {
-            Some(handle) => Some((*number, *handle)),
-            None => None,
-        },
-        Want::Release { number, fh } => Some((
-            *number,
-            Handle {
-                fh: *fh,
-                need: Need::Any,
-            },
-        )),
-        Want::Name { .. }
-        | Want::Remove { .. }
-        | Want::Move { .. }
-        | Want::Exchange { .. }
-        | Want::Page { .. }
-        | Want::Open { .. }
-        | Want::Create { .. } => None,
-    }
-}
-
-/// The handle that is closed when a request with that want begins.
-fn closed_by(want: &Want) -> Option<u64>
-    ensures { result ≡ (footprint_of want.now Case.Plain).closes }
-{
-    match want {
-        Want::Release { number: _, fh } => Some(*fh),
-        Want::Node { .. }
-        | Want::Name { .. }
-        | Want::Remove { .. }
-        | Want::Move { .. }
-        | Want::Exchange { .. }
-        | Want::Page { .. }
-        | Want::Open { .. }
-        | Want::Create { .. } => None,
-    }
-}
 
 /// Whether the handle is that of an open file of the node, and may be used for this.
 fn is_usable(files: &Files, number: u64, handle: &Handle) -> bool
@@ -115,33 +36,6 @@ fn may_hide(work: &Work) -> bool
     ensures { result ≡ not (length work.now.candidates == 0) }
 {
     !work.candidates.as_slice().is_empty()
-}
-
-/// Whether the end of the work removes the node whose file is closed.
-fn removes_closed(case: Case) -> bool
-    ensures { (number : ℕ) → result ≡ is_cut (closed_change number case) }
-{
-    match case {
-        Case::Last => true,
-        Case::Plain | Case::Absent | Case::Pathless | Case::Hiding { .. } => false,
-    }
-}
-
-/// Whether the want closes the last handle of a hidden file, which the end of the work removes.
-fn is_last(want: &Want, case: Case) -> bool
-    ensures { result ≡ is_last (footprint_of want.now case) }
-{
-    match want {
-        Want::Release { .. } => removes_closed(case),
-        Want::Node { .. }
-        | Want::Name { .. }
-        | Want::Remove { .. }
-        | Want::Move { .. }
-        | Want::Exchange { .. }
-        | Want::Page { .. }
-        | Want::Open { .. }
-        | Want::Create { .. } => false,
-    }
 }
 
 /// How many candidates are reserved if a file may have to be hidden.

@@ -4,6 +4,7 @@
 #![tactic(auto)]
 
 mod acts;
+mod asked;
 mod begin;
 mod closing;
 mod data;

@@ -20,22 +20,28 @@ use table_requests::{EndedRequest, RequestsInFlight};
 use terms::Counts;
 use tree::Tree;
 
-/// Takes back an entry of the node, if its count is above 0.
+/// What keeps nodes alive apart from their counts: requests that pin them, and open files.
+#[derive(Clone, Copy)]
+struct Keepers<'a> {
+    flights: &'a RequestsInFlight,
+    files: &'a Files,
+}
+
+/// Takes back an entry of the node, if its count is above 0. The keepers and the pins are for the prover.
 fn take_back(
     tree: &mut Tree,
     ledger: &mut Ledger,
     counts: &mut u64,
-    _flights: &RequestsInFlight,
-    _files: &Files,
+    _keepers: Keepers<'_>,
     number: u64,
     _pins: &[u64],
 )
     requires counts { counts.old ≡ tree.old.counts }
-    requires nearly { IsNearly (at_in tree.old) ledger.old.made (kept_by _flights.now _files.now) _pins.now }
+    requires nearly { IsNearly (at_in tree.old) ledger.old.made (kept_by _keepers.flights.now _keepers.files.now) _pins.now }
     requires suspect { IsAmong number _pins.now }
     requires room { (tree.old.counts ≤ ledger.old.room) ⊎ (0 < ledger.old.room) }
     ensures back { TakesBack (at_in tree.old) ledger.old.made number (at_in tree.new) ledger.new.made ⊎ TakesNone (at_in tree.old) ledger.old.made number (at_in tree.new) ledger.new.made }
-    ensures nearly { IsNearly (at_in tree.new) ledger.new.made (kept_by _flights.now _files.now) _pins.now }
+    ensures nearly { IsNearly (at_in tree.new) ledger.new.made (kept_by _keepers.entry.flights.now _keepers.entry.files.now) _pins.now }
     ensures rest { IsTakenBack tree.old ledger.old tree.new ledger.new }
     ensures one { ledger.old.room ≤ ledger.new.room + 1 }
     ensures counts { counts.new ≡ tree.new.counts }
@@ -58,21 +64,20 @@ fn take_all_back(
     tree: &mut Tree,
     ledger: &mut Ledger,
     counts: &mut u64,
-    flights: &RequestsInFlight,
-    files: &Files,
+    keepers: Keepers<'_>,
     pins: &[u64],
     from: usize,
 )
     requires counts { counts.old ≡ tree.old.counts }
-    requires nearly { IsNearly (at_in tree.old) ledger.old.made (kept_by flights.now files.now) pins.now }
+    requires nearly { IsNearly (at_in tree.old) ledger.old.made (kept_by keepers.flights.now keepers.files.now) pins.now }
     requires room { (tree.old.counts ≤ ledger.old.room) ⊎ (length pins.now ≤ ledger.old.room + from) }
     ensures back { TakesAllBack (at_in tree.old) ledger.old.made (drop from pins.now) (at_in tree.new) ledger.new.made }
-    ensures nearly { IsNearly (at_in tree.new) ledger.new.made (kept_by flights.now files.now) pins.now }
+    ensures nearly { IsNearly (at_in tree.new) ledger.new.made (kept_by keepers.entry.flights.now keepers.entry.files.now) pins.now }
     ensures rest { IsTakenBack tree.old ledger.old tree.new ledger.new }
     ensures counts { counts.new ≡ tree.new.counts }
 {
     for i in from..pins.len() {
-        take_back(tree, ledger, counts, flights, files, pins[i], pins);
+        take_back(tree, ledger, counts, keepers, pins[i], pins);
     }
 }
 
@@ -124,12 +129,15 @@ impl State {
         } = ended;
         let pins = pins.as_slice();
         let from = untaken_from(pins, before, taken);
+        let keepers = Keepers {
+            flights: &self.flights,
+            files: &self.files,
+        };
         take_all_back(
             &mut self.tree,
             &mut self.ledger,
             &mut self.counts,
-            &self.flights,
-            &self.files,
+            keepers,
             pins,
             from,
         );

@@ -54,6 +54,8 @@ mod texts;
 #[cfg(test)]
 mod trusted;
 #[cfg(test)]
+mod unseen;
+#[cfg(test)]
 mod watch;
 #[cfg(test)]
 mod watched;

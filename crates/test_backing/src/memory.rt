@@ -19,10 +19,17 @@ const FAULTS: u64 = 500;
 
 #[test]
 fn a_folder_in_memory_answers_alike(rt: HostRuntime) -> Result<(), Fail> {
-    for (capacity, most, keeps_files) in [(64, usize::MAX, false), (3, 2, false), (6, 3, true)] {
+    let rows = [
+        (64, usize::MAX, false, true),
+        (3, 2, false, false),
+        (6, 3, true, true),
+    ];
+    for (capacity, most, shared, shows_all) in rows {
         let disk = MemoryDisk::new(rt.alloc())?;
         disk.set_most(most);
-        disk.set_keeps_files(keeps_files);
+        disk.set_keeps_files(shared);
+        disk.set_is_shared(shared);
+        disk.set_shows_all(shows_all);
         let mut folder = folder_of(&rt, disk, capacity)?;
         ask_many(rt.alloc(), &mut folder, Kinds::All, 1500)?;
     }

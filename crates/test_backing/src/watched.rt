@@ -5,6 +5,7 @@ use disk::{Access, Change, DiskError, Stat};
 use linux_disk::{Page, SystemCalls};
 use std::alloc::AllocError;
 use std::rc::Rc;
+use terms::Kinds;
 
 /// That system, watched.
 #[derive(Drop)]
@@ -43,6 +44,8 @@ impl<C: SystemCalls + Drop> SystemCalls for Watched<C> {
 
     ghost mask = { λ s. C.mask s.calls };
 
+    ghost kinds = { λ s. C.kinds s.calls };
+
     fn share(&self) -> Result<Watched<C>, AllocError> {
         Ok(Watched {
             calls: self.calls.share()?,
@@ -64,6 +67,10 @@ impl<C: SystemCalls + Drop> SystemCalls for Watched<C> {
 
     fn mask(&self) -> u32 {
         self.calls.mask()
+    }
+
+    fn kinds(&self) -> Kinds {
+        self.calls.kinds()
     }
 
     fn milliseconds(&self) -> u64 {

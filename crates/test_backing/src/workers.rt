@@ -103,6 +103,58 @@ fn what_one_worker_changes_the_other_one_notices(rt: HostRuntime) -> Result<(), 
     Ok(())
 }
 
+/// What is moved, and the calls of the system that are made: one look at the source tells whether the other one has to hear of it.
+const MOVED: [(Who, &str, &str, &str); 7] = [
+    (First, "stat d/x", "fault 2", "open-dir inspect look"),
+    (First, "rename a d/x", "done", "look rename"),
+    (First, "rename-new d/x d/y", "done", "look look rename"),
+    (First, "rename e d/y", "done", "look rename"),
+    (First, "remove d/y", "done", "unlink"),
+    (First, "rename d q", "done", "look rename"),
+    (Second, "stat d", "fault 2", "look"),
+];
+
+fn take_moved<R: Wait + Clone + Drop>(alloc: Global, two: &mut Two<R>) -> Result<(), Fail> {
+    for (who, words, wanted, calls) in MOVED {
+        two.watch.take()?;
+        ask(alloc, two, who, words, wanted)?;
+        let made = two.watch.take()?;
+        if made.as_str().trim_start() != calls {
+            return Err(Fail::from((words, made, calls)));
+        }
+    }
+    Ok(())
+}
+
+fn tell_moved<R: Wait + RandomSource + Clone + Drop>(
+    rt: &R,
+    alloc: Global,
+    root: &str,
+    watch: Watch,
+) -> Result<(), Fail> {
+    let mut two = open_two(rt, alloc, root, Kinds::All, watch)?;
+    take_moved(alloc, &mut two)
+}
+
+#[test]
+fn a_worker_looks_at_what_it_moves_alone(rt: HostRuntime) -> Result<(), Fail> {
+    let root = sample_folder(&rt, "moved-by-one")?;
+    let watch = Watch::new(&rt, root.as_str())?;
+    tell_moved(&rt, rt.alloc(), root.as_str(), watch)?;
+    fs::remove_dir_all(&rt, root.as_str())?;
+    Ok(())
+}
+
+/// The same where all kinds are shown, and no look comes before a removal.
+#[test]
+fn what_one_worker_changes_unseen_the_other_one_notices(rt: HostRuntime) -> Result<(), Fail> {
+    let root = sample_folder(&rt, "unseen-by-one")?;
+    let watch = Watch::new(&rt, root.as_str())?;
+    tell(&rt, rt.alloc(), root.as_str(), Kinds::All, watch, CHANGED)?;
+    fs::remove_dir_all(&rt, root.as_str())?;
+    Ok(())
+}
+
 #[test]
 fn a_link_that_one_worker_makes_the_other_one_does_not_follow(rt: HostRuntime) -> Result<(), Fail> {
     let root = sample_folder(&rt, "linked")?;

@@ -5,6 +5,7 @@ use linux_disk::{Page, SystemCalls};
 use std::alloc::AllocError;
 use std::sync::Arc;
 use std::sync::atomic::{AtomicU64, Ordering};
+use terms::Kinds;
 
 /// EINTR.
 const INTERRUPTED: i32 = 4;
@@ -90,6 +91,8 @@ impl<C: SystemCalls + Drop> SystemCalls for Watched<C> {
 
     ghost mask = { λ s. C.mask s.calls };
 
+    ghost kinds = { λ s. C.kinds s.calls };
+
     fn share(&self) -> Result<Watched<C>, AllocError> {
         Ok(Watched {
             calls: self.calls.share()?,
@@ -111,6 +114,10 @@ impl<C: SystemCalls + Drop> SystemCalls for Watched<C> {
 
     fn mask(&self) -> u32 {
         self.calls.mask()
+    }
+
+    fn kinds(&self) -> Kinds {
+        self.calls.kinds()
     }
 
     fn milliseconds(&self) -> u64 {

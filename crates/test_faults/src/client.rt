@@ -5,7 +5,7 @@ ghost use Rattle.table_steps.specs.Kept.{world_of};
 ghost use Rattle.table_steps.specs.World.{opened_world};
 
 use crate::watched::Watched;
-use engine::{Link, LinkIn, LinkOut, Received, Sent, Served, SessionEnd, Settings, serve};
+use engine::{Link, LinkIn, LinkOut, Received, Sent, Served, Session, SessionEnd, Settings, serve};
 use handles::Dirs;
 use ledger::{Blanks, Ledgers, Share};
 use std::alloc::{AllocError, Global};
@@ -157,7 +157,8 @@ pub fn serve_on<H: Wait + RandomSource, T: Ledgers>(
         attributes: AttributeSource::Fixed { uid: 0, gid: 0 },
         kinds,
     };
-    let end = serve(rt, alloc, client, served, &mut table, &mut share, settings);
+    let session = Session::new(alloc, settings);
+    let end = serve(rt, session, client, served, &mut table, &mut share);
     share.leave();
     let image = table.export()?;
     Ok(Over { end, image })

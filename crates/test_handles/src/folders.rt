@@ -21,50 +21,12 @@ fn put(dirs: &Dirs, listing: Listing) -> Result<u64, Fail> {
     }
 }
 
-#[test]
-fn put_lent_and_retired(rt: HostRuntime) -> Result<(), Fail> {
-    let dirs = Dirs::new(rt.alloc())?;
-    assert!(rt; dirs.lend(0).is_none());
-    assert!(rt; dirs.lend(u64::MAX).is_none());
-    assert!(rt; !dirs.retire(0));
-    let first = put(&dirs, listing(rt.alloc(), ONE)?)?;
-    let second = put(&dirs, listing(rt.alloc(), TWO)?)?;
-    assert!(rt; first != second);
-    let Some(lent) = dirs.lend(first) else {
-        return Err(Fail::from("the first is not lent"));
-    };
-    let Some(again) = dirs.lend(first) else {
-        return Err(Fail::from("the first is not lent twice"));
-    };
-    // A handle is closed only once, even while its listing is lent.
-    let Some(last) = dirs.close(first) else {
-        return Err(Fail::from("the first is not closed"));
-    };
-    assert!(rt; !dirs.retire(first));
-    assert_eq!(rt; last.listing().fh(), first);
-    assert!(rt; dirs.lend(first).is_none());
-    assert_eq!(rt; again.listing().fh(), first);
-    assert_eq!(rt; lent.listing().number(), 1);
-    let text = told(rt.alloc(), lent.listing().entries())?;
-    assert_eq!(rt; text.as_str(), "./ ../ a");
-    let Some(other) = dirs.lend(second) else {
-        return Err(Fail::from("the second is not lent"));
-    };
-    let text = told(rt.alloc(), other.listing().entries())?;
-    assert_eq!(rt; text.as_str(), "./ ../ b/ c");
-    let third = put(&dirs, listing(rt.alloc(), ONE)?)?;
-    assert!(rt; third != first && third != second);
-    assert!(rt; dirs.retire(third));
-    assert!(rt; dirs.retire(second));
-    Ok(())
-}
-
-/// The results of a thread: how many of its listings were lent as they were stored and then retired, and under which
-/// handles.
-#[derive(Drop)]
-struct Worked {
-    right: u64,
-    handles: Vec<u64>,
+/// Fails where it is not so.
+fn expect(is_so: bool, says: &'static str) -> Result<(), Fail> {
+    if is_so {
+        return Ok(());
+    }
+    Err(Fail::from(says))
 }
 
 /// Whether the listing that is lent under the handle has that handle and these names.
@@ -74,6 +36,76 @@ fn is_lent(alloc: Global, dirs: &Dirs, fh: u64, names: &str) -> Result<bool, All
     };
     let text = told(alloc, lent.listing().entries())?;
     Ok(lent.listing().fh() == fh && text.as_str() == names)
+}
+
+#[test]
+fn nothing_is_lent_at_first(rt: HostRuntime) -> Result<(), Fail> {
+    let dirs = Dirs::new(rt.alloc())?;
+    expect(dirs.lend(0).is_none(), "the handle 0 is lent")?;
+    expect(dirs.lend(u64::MAX).is_none(), "the last handle is lent")?;
+    expect(!dirs.retire(0), "the handle 0 is retired")
+}
+
+#[test]
+fn put_lent_and_retired(rt: HostRuntime) -> Result<(), Fail> {
+    let dirs = Dirs::new(rt.alloc())?;
+    let first = put(&dirs, listing(rt.alloc(), ONE)?)?;
+    let second = put(&dirs, listing(rt.alloc(), TWO)?)?;
+    expect(first != second, "one handle for two listings")?;
+    expect(is_lent(rt.alloc(), &dirs, first, "./ ../ a")?, "the first")?;
+    expect(
+        is_lent(rt.alloc(), &dirs, second, "./ ../ b/ c")?,
+        "the second",
+    )?;
+    expect(dirs.retire(first), "the first is not retired")?;
+    expect(!dirs.retire(first), "the first is retired twice")?;
+    expect(
+        is_lent(rt.alloc(), &dirs, second, "./ ../ b/ c")?,
+        "the second, once the first is gone",
+    )?;
+    let third = put(&dirs, listing(rt.alloc(), ONE)?)?;
+    expect(third != first && third != second, "a handle comes again")?;
+    expect(
+        dirs.retire(third) && dirs.retire(second),
+        "not all are retired",
+    )
+}
+
+// A handle is closed only once, even while its listing is lent.
+#[test]
+fn closed_while_it_is_lent(rt: HostRuntime) -> Result<(), Fail> {
+    let dirs = Dirs::new(rt.alloc())?;
+    let fh = put(&dirs, listing(rt.alloc(), ONE)?)?;
+    let Some(lent) = dirs.lend(fh) else {
+        return Err(Fail::from("it is not lent"));
+    };
+    let Some(again) = dirs.lend(fh) else {
+        return Err(Fail::from("it is not lent twice"));
+    };
+    let Some(last) = dirs.close(fh) else {
+        return Err(Fail::from("it is not closed"));
+    };
+    expect(
+        !dirs.retire(fh) && dirs.lend(fh).is_none(),
+        "it is closed and lent",
+    )?;
+    expect(
+        last.listing().fh() == fh && again.listing().fh() == fh,
+        "another handle",
+    )?;
+    let text = told(rt.alloc(), lent.listing().entries())?;
+    expect(
+        lent.listing().number() == 1 && text.as_str() == "./ ../ a",
+        "another listing",
+    )
+}
+
+/// The results of a thread: how many of its listings were lent as they were stored and then retired, and under which
+/// handles.
+#[derive(Drop)]
+struct Worked {
+    right: u64,
+    handles: Vec<u64>,
 }
 
 /// Stores a listing, lends it, and retires it.

@@ -1,11 +1,11 @@
 //! Command lines that say what is shown of a folder.
 
-use crate::client::{ALL, ALL_OF_HOST, FIXED, OF_HOST};
 use crate::frames::run_words;
 use mirrord_programs::{Options, OptionsRefusal, read_options};
 use std::alloc::Global;
 use std::test::Fail;
 use terms::{AttributeSource, Kinds, Settings};
+use test_support::{ALL, ALL_OF_HOST, FIXED, OF_HOST};
 
 /// A command line, and the settings that it leads to.
 #[derive(Clone, Copy)]

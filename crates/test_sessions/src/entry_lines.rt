@@ -1,10 +1,8 @@
 //! READDIRPLUS byte for byte.
 
-use crate::client::FIXED;
 use crate::sampled::{Lines, tell_lines};
-use ledger::Blanks;
-use std::marker::Brand;
 use std::test::Fail;
+use test_support::FIXED;
 
 /// MKDIR `m` in the root, unique 4: node 2.
 pub const MAKE_M: &str =
@@ -94,7 +92,7 @@ const PAGE_SIZES: Lines = Lines {
 
 #[test]
 fn page_sizes(rt: HostRuntime) -> Result<(), Fail> {
-    tell_lines::<HostRuntime, Brand>(&rt, rt.alloc(), Blanks::new(1), PAGE_SIZES)
+    tell_lines(&rt, rt.alloc(), PAGE_SIZES)
 }
 
 /// `.` has an entry of zeros, and so has a name that is gone: 144 bytes except for the offset, the type and the name.
@@ -126,5 +124,5 @@ const ZEROS: Lines = Lines {
 
 #[test]
 fn entry_of_zeros(rt: HostRuntime) -> Result<(), Fail> {
-    tell_lines::<HostRuntime, Brand>(&rt, rt.alloc(), Blanks::new(1), ZEROS)
+    tell_lines(&rt, rt.alloc(), ZEROS)
 }

@@ -1,11 +1,9 @@
 //! READDIR byte for byte.
 
-use crate::client::FIXED;
 use crate::entry_lines::{MADE_M, MAKE_M, MOVE_A, MOVE_E, OPEN_M, OPENED as OPENED_M};
 use crate::sampled::{Lines, tell_lines};
-use ledger::Blanks;
-use std::marker::Brand;
 use std::test::Fail;
+use test_support::FIXED;
 
 /// A folder with only `a` and `b`: its first entry is the folder itself, and 32 bytes have room for only that one.
 const FIRST: Lines = Lines {
@@ -30,7 +28,7 @@ const FIRST: Lines = Lines {
 
 #[test]
 fn first_dirent(rt: HostRuntime) -> Result<(), Fail> {
-    tell_lines::<HostRuntime, Brand>(&rt, rt.alloc(), Blanks::new(1), FIRST)
+    tell_lines(&rt, rt.alloc(), FIRST)
 }
 
 /// OPENDIR of the root, unique 3, and the first handle, which a script writes as 1.
@@ -69,5 +67,5 @@ const PAGES: Lines = Lines {
 
 #[test]
 fn names_that_fit(rt: HostRuntime) -> Result<(), Fail> {
-    tell_lines::<HostRuntime, Brand>(&rt, rt.alloc(), Blanks::new(1), PAGES)
+    tell_lines(&rt, rt.alloc(), PAGES)
 }

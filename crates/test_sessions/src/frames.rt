@@ -1,7 +1,7 @@
 //! The frames that the tests send and the replies that they expect, in hexadecimal digits. Spaces are only for
 //! readability.
 
-use mirrord_programs::{DEFAULT_POSTINGS, LinuxDisks, Standard, TreeServed, hex_run, run};
+use mirrord_programs::{DEFAULT_POSTINGS, LinuxDisks, Standard, Streams, TreeServed, hex_run, run};
 use std::alloc::{AllocError, Global};
 use std::fs::File;
 use std::io;
@@ -119,15 +119,11 @@ pub fn run_from(
 ) -> io::Result<Run> {
     let mut faults = Vec::new(alloc);
     let seeds = Seeds::new(rt)?;
-    let ended = hex_run(
-        rt,
-        alloc,
-        tree_with(sample),
-        seeds,
+    let streams = Streams {
         input,
-        Vec::new(alloc),
-        &mut faults,
-    );
+        output: Vec::new(alloc),
+    };
+    let ended = hex_run(rt, alloc, tree_with(sample), seeds, streams, &mut faults);
     Ok(Run {
         status: ended.status,
         output: ended.output,
@@ -149,7 +145,11 @@ pub fn run_into(
 ) -> io::Result<Run> {
     let mut faults = Vec::new(alloc);
     let seeds = Seeds::new(rt)?;
-    let ended = hex_run(rt, alloc, tree_with(true), seeds, input, room, &mut faults);
+    let streams = Streams {
+        input,
+        output: room,
+    };
+    let ended = hex_run(rt, alloc, tree_with(true), seeds, streams, &mut faults);
     Ok(Run {
         status: ended.status,
         output: Vec::new(alloc),

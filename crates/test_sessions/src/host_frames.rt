@@ -1,12 +1,10 @@
 //! Attributes of a tree in memory, byte for byte: its files have no inode numbers, so 0 is reported. Of what is set,
 //! only a size is kept.
 
-use crate::client::OF_HOST;
 use crate::frames::LOOKUP_A;
 use crate::sampled::{Lines, tell_lines};
-use ledger::Blanks;
-use std::marker::Brand;
 use std::test::Fail;
+use test_support::OF_HOST;
 
 /// The entry of `a`: node 2, generation 0, a file of three bytes in one block.
 const ENTRY_A: &str = "90000000 00000000 0700000000000000 \
@@ -97,5 +95,5 @@ const A_TOLD: &str = "78000000 00000000 0900000000000000 0100000000000000 000000
 
 #[test]
 fn attributes_of_the_host(rt: HostRuntime) -> Result<(), Fail> {
-    tell_lines::<HostRuntime, Brand>(&rt, rt.alloc(), Blanks::new(1), OF_THE_HOST)
+    tell_lines(&rt, rt.alloc(), OF_THE_HOST)
 }

@@ -1,11 +1,9 @@
 //! Symbolic links, byte for byte, and what is answered where they are not shown.
 
-use crate::client::ALL;
 use crate::row::{NOTHING, Row, run_rows};
 use crate::sampled::{Lines, tell_lines};
-use ledger::Blanks;
-use std::marker::Brand;
 use std::test::Fail;
+use test_support::ALL;
 
 /// SYMLINK `l` in the root with the text `a/b`, unique 3, and its entry: node 2, generation 0, a link of three bytes.
 const SYMLINK_L: &str =
@@ -74,7 +72,7 @@ const REFUSED: Lines = Lines {
 #[test]
 fn frames_of_links(rt: HostRuntime) -> Result<(), Fail> {
     for told in [SHOWN, REFUSED] {
-        tell_lines::<HostRuntime, Brand>(&rt, rt.alloc(), Blanks::new(1), told)?;
+        tell_lines(&rt, rt.alloc(), told)?;
     }
     Ok(())
 }

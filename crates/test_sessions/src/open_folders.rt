@@ -1,19 +1,14 @@
 //! How many folders are open when a session ends.
 
-ghost use Rattle.std.specs.Prelude.{◌≡◌};
-
-use crate::client::{FIXED, serve_client};
 use crate::sampled::client_of;
 use engine::Served;
-use ledger::{Blanks, Ledgers};
 use mirrord_programs::new_tree;
 use std::alloc::Global;
-use std::marker::Brand;
 use std::random::RandomSource;
 use std::sync::Wait;
 use std::test::Fail;
 use table::Limits;
-use test_support::PlainFolders;
+use test_support::{FIXED, PlainFolders, serve_client};
 
 /// OPENDIR of the root, unique 3.
 const OPEN: &str =
@@ -79,15 +74,7 @@ const ROWS: &[Row] = &[
 ];
 
 /// How many folders are open at the end.
-fn open_after<H: Wait + RandomSource, T: Ledgers>(
-    rt: &H,
-    alloc: Global,
-    blanks: Blanks,
-    row: &Row,
-) -> Result<usize, Fail>
-    requires names { blanks ≡ T.names }
-    requires shares { T.names.parts ≡ 1 }
-{
+fn open_after<H: Wait + RandomSource>(rt: &H, alloc: Global, row: &Row) -> Result<usize, Fail> {
     let mut client = client_of(alloc, row.lines, row.declined)?;
     if row.breaks {
         client = client.breaking();
@@ -97,14 +84,14 @@ fn open_after<H: Wait + RandomSource, T: Ledgers>(
         dirs: PlainFolders::new(alloc),
     };
     let limits = Limits::default();
-    serve_client::<H, T, PlainFolders>(rt, alloc, blanks, FIXED, limits, &mut served, &mut client)?;
+    serve_client(rt, alloc, FIXED, limits, &mut served, &mut client)?;
     Ok(served.dirs.open())
 }
 
 #[test]
 fn folders_that_stay_open(rt: HostRuntime) -> Result<(), Fail> {
     for row in ROWS {
-        let open = open_after::<HostRuntime, Brand>(&rt, rt.alloc(), Blanks::new(1), row)?;
+        let open = open_after(&rt, rt.alloc(), row)?;
         assert_eq!(rt; open, row.open);
     }
     Ok(())

@@ -1,11 +1,9 @@
 //! The traffic of a link, in order.
 
-use crate::client::Client;
 use crate::frames::{INIT, LOOKUP_A};
 use crate::sampled::{bytes_of, serve_samples};
-use ledger::Blanks;
-use std::marker::Brand;
 use std::test::Fail;
+use test_support::Client;
 
 /// Two requests and the beginning of a third are received at once: the two are answered before the rest of the third is
 /// received.
@@ -33,7 +31,7 @@ fn no_reply_waits_for_later_bytes(rt: HostRuntime) -> Result<(), Fail> {
     pieces.push(first)?;
     pieces.push(bytes_of(alloc, REST)?)?;
     let mut client = Client::new(alloc, pieces, 0);
-    serve_samples::<HostRuntime, Brand>(&rt, alloc, Blanks::new(1), None, &mut client)?;
+    serve_samples(&rt, alloc, None, &mut client)?;
     let record = client.into_record();
     assert_eq!(rt; record.len(), RECORD.len());
     for (line, wanted) in record.as_slice().iter().zip(RECORD) {

@@ -4,7 +4,7 @@ use crate::frames::{
     ABSENT, AGREED, ENTRY_A, ENTRY_E_REBORN, FORGET_FIVE, FORGET_THREE, FULL, INIT, LOOKUP_A,
     LOOKUP_E, lines_of, run_from, run_words, tree_with,
 };
-use mirrord_programs::hex_run;
+use mirrord_programs::{Streams, hex_run};
 use std::io;
 use std::io::{ErrorKind, Write};
 use std::test::Fail;
@@ -133,8 +133,10 @@ fn broken_output(rt: HostRuntime) -> Result<(), Fail> {
         alloc,
         tree_with(true),
         Seeds::new(&rt)?,
-        input.as_slice(),
-        broken,
+        Streams {
+            input: input.as_slice(),
+            output: broken,
+        },
         &mut faults,
     );
     assert_eq!(rt; ended.status, 4);
@@ -149,8 +151,10 @@ fn broken_output(rt: HostRuntime) -> Result<(), Fail> {
         alloc,
         tree_with(true),
         Seeds::new(&rt)?,
-        input.as_slice(),
-        full,
+        Streams {
+            input: input.as_slice(),
+            output: full,
+        },
         &mut lines,
     );
     assert_eq!(rt; ended.status, 4);
@@ -170,8 +174,10 @@ fn broken_standard_error(rt: HostRuntime) -> Result<(), Fail> {
         alloc,
         tree_with(true),
         Seeds::new(&rt)?,
-        b"2".as_slice(),
-        Vec::new(alloc),
+        Streams {
+            input: b"2".as_slice(),
+            output: Vec::new(alloc),
+        },
         &mut broken,
     );
     assert_eq!(rt; ended.status, 4);

@@ -1,13 +1,9 @@
 //! Sessions with the sample names, with frames and replies in hexadecimal digits.
 
-ghost use Rattle.std.specs.Prelude.{◌≡◌};
-
-use crate::client::{Client, FIXED, Over, serve_client};
 use crate::frames::{AGREED, INIT, lines_of};
 use backing::PlannedFault;
 use engine::Served;
 use handles::Dirs;
-use ledger::{Blanks, Ledgers};
 use mirrord_programs::new_tree;
 use ops::Settings;
 use std::alloc::{AllocError, Global};
@@ -15,19 +11,16 @@ use std::random::RandomSource;
 use std::sync::Wait;
 use std::test::Fail;
 use table::Limits;
+use test_support::{Client, FIXED, Over, serve_client};
 
 // Serves the sample names with these settings. The first call of their tree fails, if a fault is planned.
-pub fn serve_samples_by<H: Wait + RandomSource, T: Ledgers>(
+pub fn serve_samples_by<H: Wait + RandomSource>(
     rt: &H,
     alloc: Global,
-    blanks: Blanks,
     settings: Settings,
     planned: Option<PlannedFault>,
     client: &mut Client,
-) -> Result<Over, AllocError>
-    requires names { blanks ≡ T.names }
-    requires shares { T.names.parts ≡ 1 }
-{
+) -> Result<Over, AllocError> {
     let mut tree = new_tree(alloc, true)?;
     if let Some(fault) = planned {
         tree.fail_at(1, fault)?;
@@ -38,21 +31,17 @@ pub fn serve_samples_by<H: Wait + RandomSource, T: Ledgers>(
         dirs: &dirs,
     };
     let limits = Limits::default();
-    serve_client::<H, T, &Dirs>(rt, alloc, blanks, settings, limits, &mut served, client)
+    serve_client(rt, alloc, settings, limits, &mut served, client)
 }
 
 // The same with fixed attributes.
-pub fn serve_samples<H: Wait + RandomSource, T: Ledgers>(
+pub fn serve_samples<H: Wait + RandomSource>(
     rt: &H,
     alloc: Global,
-    blanks: Blanks,
     planned: Option<PlannedFault>,
     client: &mut Client,
-) -> Result<Over, AllocError>
-    requires names { blanks ≡ T.names }
-    requires shares { T.names.parts ≡ 1 }
-{
-    serve_samples_by::<H, T>(rt, alloc, blanks, FIXED, planned, client)
+) -> Result<Over, AllocError> {
+    serve_samples_by(rt, alloc, FIXED, planned, client)
 }
 
 pub fn bytes_of(alloc: Global, line: &str) -> Result<Vec<u8>, Fail> {
@@ -99,17 +88,9 @@ pub struct Lines {
 }
 
 // Checks that a client that sends these lines gets these replies, with the sample names.
-pub fn tell_lines<H: Wait + RandomSource, T: Ledgers>(
-    rt: &H,
-    alloc: Global,
-    blanks: Blanks,
-    told: Lines,
-) -> Result<(), Fail>
-    requires names { blanks ≡ T.names }
-    requires shares { T.names.parts ≡ 1 }
-{
+pub fn tell_lines<H: Wait + RandomSource>(rt: &H, alloc: Global, told: Lines) -> Result<(), Fail> {
     let mut client = client_of(alloc, told.lines, 0)?;
-    serve_samples_by::<H, T>(rt, alloc, blanks, told.settings, None, &mut client)?;
+    serve_samples_by(rt, alloc, told.settings, None, &mut client)?;
     if are_taken(alloc, &client.taken, told.replies)? {
         return Ok(());
     }

@@ -3,157 +3,195 @@
 use clap::error::ErrorKind;
 use mirrord_programs::{Options, read_options};
 use mirrord_server::{Bounds, Terms, Unserved};
+use std::alloc::Global;
 use std::test::Fail;
 use table::Counts;
 use terms::{AttributeSource, Kinds, Settings};
 
-/// How far a table may grow by default.
-const DEFAULT: Bounds = Bounds {
-    nodes: 65_536,
-    files: 4_096,
-    requests: 64,
-    postings: 1_048_576,
-    counts: Counts::Bounded,
+/// A command line, and what it asks for.
+#[derive(Clone, Copy)]
+struct Asked(&'static [&'static str], Options<'static>);
+
+/// Files and folders alone, which belong to user 0 and group 0, in a table that may grow as far as it does by default.
+const DEFAULT: Terms = Terms {
+    settings: Settings {
+        attributes: AttributeSource::Fixed { uid: 0, gid: 0 },
+        kinds: Kinds::Plain,
+    },
+    bounds: Bounds {
+        nodes: 65_536,
+        files: 4_096,
+        requests: 64,
+        postings: 1_048_576,
+        counts: Counts::Bounded,
+    },
 };
 
-fn terms(uid: u32, gid: u32, bounds: Bounds) -> Terms {
-    Terms {
-        settings: Settings {
-            attributes: AttributeSource::Fixed { uid, gid },
-            kinds: Kinds::Plain,
+/// The greatest numbers that there may be.
+const MOST: Terms = Terms {
+    settings: Settings {
+        attributes: AttributeSource::Fixed {
+            uid: 4_294_967_295,
+            gid: 7,
         },
-        bounds,
-    }
-}
-
-#[test]
-fn hex_with_and_without_samples(rt: HostRuntime) -> Result<(), Fail> {
-    let bare = read_options(rt.alloc(), &["mirrord", "hex"])?;
-    let unsampled = Options::Hex {
-        sample: false,
         kinds: Kinds::Plain,
-        postings: 1_048_576,
-    };
-    assert_eq!(rt; bare, unsampled);
-    let words = [
-        "mirrord",
-        "hex",
-        "--sample",
-        "--kinds=all",
-        "--postings",
-        "6",
-    ];
-    let sampled = Options::Hex {
-        sample: true,
-        kinds: Kinds::All,
-        postings: 6,
-    };
-    assert_eq!(rt; read_options(rt.alloc(), &words)?, sampled);
-    Ok(())
-}
-
-#[test]
-fn serve_and_pipe(rt: HostRuntime) -> Result<(), Fail> {
-    let words = [
-        "mirrord",
-        "serve",
-        "--root",
-        "/srv",
-        "--socket",
-        "/tmp/s",
-        "--workers",
-        "4",
-        "-s",
-        "--uid",
-        "4294967295",
-        "--gid=7",
-        "--nodes=16777216",
-        "--files",
-        "1048576",
-        "--requests=65536",
-        "--postings=4294967295",
-        "--counts=free",
-    ];
-    let most = Bounds {
+    },
+    bounds: Bounds {
         nodes: 16_777_216,
         files: 1_048_576,
         requests: 65_536,
         postings: 4_294_967_295,
         counts: Counts::Free,
-    };
-    let given = Options::Serve {
-        root: "/srv",
-        socket: "/tmp/s",
-        workers: 4,
-        single: true,
-        terms: terms(4_294_967_295, 7, most),
-    };
-    assert_eq!(rt; read_options(rt.alloc(), &words)?, given);
-    let words = ["mirrord", "serve", "--socket=/tmp/s", "--root=/srv"];
-    let left_out = Options::Serve {
-        root: "/srv",
-        socket: "/tmp/s",
-        workers: 2,
-        single: false,
-        terms: terms(0, 0, DEFAULT),
-    };
-    assert_eq!(rt; read_options(rt.alloc(), &words)?, left_out);
-    let words = [
-        "mirrord",
-        "pipe",
-        "--gid",
-        "1",
-        "--root",
-        "/srv",
-        "--nodes",
-        "2",
-        "--files=1",
-        "--requests=1",
-        "--postings=1",
-        "--counts",
-        "bounded",
-    ];
-    let least = Bounds {
+    },
+};
+
+/// The least ones.
+const LEAST: Terms = Terms {
+    settings: Settings {
+        attributes: AttributeSource::Fixed { uid: 0, gid: 1 },
+        kinds: Kinds::Plain,
+    },
+    bounds: Bounds {
         nodes: 2,
         files: 1,
         requests: 1,
         postings: 1,
         counts: Counts::Bounded,
-    };
-    let pipe = Options::Pipe {
-        root: "/srv",
-        terms: terms(0, 1, least),
-    };
-    assert_eq!(rt; read_options(rt.alloc(), &words)?, pipe);
+    },
+};
+
+const ASKED: &[Asked] = &[
+    Asked(
+        &["mirrord", "hex"],
+        Options::Hex {
+            sample: false,
+            kinds: Kinds::Plain,
+            postings: 1_048_576,
+        },
+    ),
+    Asked(
+        &[
+            "mirrord",
+            "hex",
+            "--sample",
+            "--kinds=all",
+            "--postings",
+            "6",
+        ],
+        Options::Hex {
+            sample: true,
+            kinds: Kinds::All,
+            postings: 6,
+        },
+    ),
+    Asked(
+        &[
+            "mirrord",
+            "serve",
+            "--root",
+            "/srv",
+            "--socket",
+            "/tmp/s",
+            "--workers",
+            "4",
+            "-s",
+            "--uid",
+            "4294967295",
+            "--gid=7",
+            "--nodes=16777216",
+            "--files",
+            "1048576",
+            "--requests=65536",
+            "--postings=4294967295",
+            "--counts=free",
+        ],
+        Options::Serve {
+            root: "/srv",
+            socket: "/tmp/s",
+            workers: 4,
+            single: true,
+            terms: MOST,
+        },
+    ),
+    Asked(
+        &["mirrord", "serve", "--socket=/tmp/s", "--root=/srv"],
+        Options::Serve {
+            root: "/srv",
+            socket: "/tmp/s",
+            workers: 2,
+            single: false,
+            terms: DEFAULT,
+        },
+    ),
+    Asked(
+        &[
+            "mirrord",
+            "pipe",
+            "--gid",
+            "1",
+            "--root",
+            "/srv",
+            "--nodes",
+            "2",
+            "--files=1",
+            "--requests=1",
+            "--postings=1",
+            "--counts",
+            "bounded",
+        ],
+        Options::Pipe {
+            root: "/srv",
+            terms: LEAST,
+        },
+    ),
+];
+
+#[test]
+fn what_is_asked_for(rt: HostRuntime) -> Result<(), Fail> {
+    let mut row = 0u32;
+    for Asked(words, options) in ASKED {
+        if read_options(rt.alloc(), words)? != *options {
+            return Err(Fail::from(("other options", row)));
+        }
+        row = row.saturating_add(1);
+    }
     Ok(())
+}
+
+/// Checks that the words are refused by an error of this kind, on standard error with status 2 or else with status 0.
+fn expect_refused(alloc: Global, words: &[&str], kind: Option<ErrorKind>) -> Result<(), Fail> {
+    let Err(error) = read_options(alloc, words) else {
+        return Err(Fail::from("it is served"));
+    };
+    let (is_told, status) = match kind {
+        Some(kind) => (error.kind() == kind && !error.use_stderr(), 0),
+        None => (error.use_stderr(), 2),
+    };
+    if is_told && error.exit_code() == status {
+        return Ok(());
+    }
+    Err(Fail::from(("another refusal", error.exit_code())))
 }
 
 // Help and the version end with status 0, and are written to standard output.
 #[test]
-fn help_and_version(rt: HostRuntime) {
+fn help_and_version(rt: HostRuntime) -> Result<(), Fail> {
     for word in ["--help", "-h", "help"] {
-        match read_options(rt.alloc(), &["mirrord", word]) {
-            Ok(_) => panic!(rt; "{word} is served"),
-            Err(error) => {
-                assert!(rt; error.kind() == ErrorKind::DisplayHelp);
-                assert!(rt; !error.use_stderr());
-            }
-        }
+        expect_refused(rt.alloc(), &["mirrord", word], Some(ErrorKind::DisplayHelp))?;
     }
     for word in ["--version", "-V"] {
-        match read_options(rt.alloc(), &["mirrord", word]) {
-            Ok(_) => panic!(rt; "{word} is served"),
-            Err(error) => {
-                assert!(rt; error.kind() == ErrorKind::DisplayVersion);
-                assert!(rt; !error.use_stderr());
-            }
-        }
+        expect_refused(
+            rt.alloc(),
+            &["mirrord", word],
+            Some(ErrorKind::DisplayVersion),
+        )?;
     }
+    Ok(())
 }
 
 // A command line that is not understood ends with status 2, and a message on standard error.
 #[test]
-fn bad_command_lines(rt: HostRuntime) {
+fn bad_command_lines(rt: HostRuntime) -> Result<(), Fail> {
     let bad: [&[&str]; 18] = [
         &["mirrord"],
         &["mirrord", "mount"],
@@ -193,14 +231,9 @@ fn bad_command_lines(rt: HostRuntime) {
         ],
     ];
     for words in bad {
-        match read_options(rt.alloc(), words) {
-            Ok(_) => panic!(rt; "it is served"),
-            Err(error) => {
-                assert!(rt; error.use_stderr());
-                assert_eq!(rt; error.exit_code(), 2);
-            }
-        }
+        expect_refused(rt.alloc(), words, None)?;
     }
+    Ok(())
 }
 
 /// What each reason is worded as.

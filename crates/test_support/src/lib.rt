@@ -1,10 +1,12 @@
-//! What the scripted clients of the tests share: handles of open folders, which a client reads from the replies, and a
-//! device.
+//! What the scripted clients of the tests share: handles of open folders, which a client reads from the replies, a client
+//! with all its frames, and a device.
 #![tactic(auto)]
 
+mod client;
 mod devices;
 mod plain_folders;
 
+pub use client::{ALL, ALL_OF_HOST, Client, FIXED, OF_HOST, Over, serve_client};
 pub use devices::{Log, ScriptedReplies, ScriptedRequests, Written};
 pub use plain_folders::PlainFolders;
 use std::alloc::{AllocError, Global};

@@ -10,10 +10,9 @@ use crate::turns::{passes_of, shared_table_of};
 use backing::Shared;
 use crossbeam_channel::bounded_with;
 use engine::{Sent, Served};
-use engine_queues::Job;
 use engine_queues::jobs::{Fair, Hand};
 use engine_queues::replies::{InOrder, QueuedReply, ReplyLane};
-use engine_turns::{JobReply, Reader, TableHandle, ThreadShare, Worker, Writer};
+use engine_turns::{Job, JobReply, Reader, TableHandle, TableLock, ThreadShare, Worker, Writer};
 use handles::Dirs;
 use ledger::{Blanks, Ledgers, Posting, Share};
 use shared_history::{Opened, ThreadLog};
@@ -75,7 +74,8 @@ fn work_and_write<H: Wait + Drop, T: Ledgers, N: Opening>(
     for _ in 0..4 {
         let _turn = worker.turn(&mut table_handle, share, served);
     }
-    let _count = writer.turns(rt, hears, shared_table, own, share, &mut served.dirs);
+    let table_lock = TableLock { rt, shared_table };
+    let _count = writer.turns(&table_lock, hears, own, share, &mut served.dirs);
 }
 
 /// The same on a shared table made of this one. Returns the table's final image.

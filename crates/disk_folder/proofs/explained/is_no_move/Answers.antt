@@ -5,7 +5,7 @@ use Rattle.backing.specs.Calls.{AskRename, unless}
 use Rattle.backing.specs.Checks.{room_tests}
 use Rattle.disk_folder.specs.Explained.{Explains}
 use Rattle.disk_folder.specs.Troubles.{reason_errno}
-use Rattle.disk_folder.proofs.Witnesses.{move_into, move_over, move_on_names, move_folder_on_file, move_file_on_folder}
+use Rattle.disk_folder.proofs.MoveWitnesses.{move_into, move_over, move_on_names, move_folder_on_file, move_file_on_folder}
 use Rattle.disk_folder.proofs.explained.is_no_move.Goals as goal
 
 pub returns-then-is_no_source : goal.returns-then-is_no_source

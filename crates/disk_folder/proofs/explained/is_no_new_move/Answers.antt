@@ -5,7 +5,7 @@ use Rattle.backing.specs.Calls.{AskRenameNew}
 use Rattle.backing.specs.Checks.{new_tests}
 use Rattle.disk_folder.specs.Explained.{Explains}
 use Rattle.disk_folder.specs.Troubles.{reason_errno}
-use Rattle.disk_folder.proofs.Witnesses.{new_on_itself, new_on_another, new_into, new_over, new_blocked}
+use Rattle.disk_folder.proofs.MoveWitnesses.{new_on_itself, new_on_another, new_into, new_over, new_blocked}
 use Rattle.disk_folder.proofs.explained.is_no_new_move.Goals as goal
 
 pub returns-then-is_no_source : goal.returns-then-is_no_source

@@ -4,7 +4,7 @@ use Rattle.disk_folder.specs.declared.trouble.Reason.{Reason}
 use Rattle.backing.specs.Checks.{source_tests}
 use Rattle.disk_folder.specs.Explained.{Explained}
 use Rattle.disk_folder.specs.Troubles.{reason_errno}
-use Rattle.disk_folder.proofs.Witnesses.{from_root, to_root, source_lost, source_blocked}
+use Rattle.disk_folder.proofs.MoveWitnesses.{from_root, to_root, source_lost, source_blocked}
 use Rattle.disk_folder.proofs.explained.is_no_source.Goals as goal
 
 pub returns-then-len-eq0 : goal.returns-then-len-eq0

@@ -1,6 +1,7 @@
-use Rattle.disk_folder.proofs.CallEnds.{stand_same}
+use Rattle.backing.specs.Calls.{AskRename}
+use Rattle.disk_folder.proofs.UnseenEnds.{ends_after}
 use Rattle.disk_folder.proofs.moving.rename.Goals as goal
 
-pub returns-in-Ok-clause-stand : goal.returns-in-Ok-clause-stand
-returns-in-Ok-clause-stand g c = λ all.
-    stand_same (g.D.Disk.tree c.rename_seen-moved.new.disk) (g.D.Disk.stands c.rename_seen-moved.new.disk) c.rename_seen-moved.new.cache c.note_move.new.cache c.note_move.ensures (c.rename_seen-moved.ensures.stand (c.in-Ok.ensures.stand all))
+pub returns-in-None-clause-ends : goal.returns-in-None-clause-ends
+returns-in-None-clause-ends g c = λ all.
+    ends_after (g.D.Disk.tree c.args.disk.now) (g.D.Disk.tree c.rename_unseen.new.disk) (g.D.Disk.tree c.rename_looking.new.disk) (AskRename c.args.from.now c.args.to.now) c.rename_looking.result (c.in-None.ensures.ends all) (c.rename_looking.ensures.ends (c.in-None.ensures.stand all))

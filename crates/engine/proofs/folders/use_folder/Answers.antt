@@ -1,14 +1,14 @@
-use Rattle.std.proofs.Common.{◌≡◌, ℕ, List, [], ◌∷◌, false, Option, Some, refl, sym, ap, subst, ◌∙◌}
+use Rattle.std.proofs.Common.{◌≡◌, ℕ, List, [], ◌∷◌, Option, Some, true, false, refl, sym, ap, subst, ◌∙◌}
 use Rattle.std.specs.Prelude.{IfOk, OnErr}
 use Rattle.backing.specs.declared.call.Child.{Child}
 use Rattle.handles.specs.Calls.{Retire}
 use Rattle.handles.specs.Listings.{OpenFolder}
 use Rattle.ops.specs.Folders.{IsPaged, names_reply}
-use Rattle.wire.specs.declared.reply.ReplyBody.{ReplyBody}
+use Rattle.ops.specs.Pages.{Paged}
+use Rattle.ops.specs.declared.intents.FolderUse.TheVariants.{ReadEntries}
 use Rattle.wire.specs.declared.reply.ReplyBody.TheVariants.{Done}
-use Rattle.engine.specs.Folders.{ByCalls, IsUsed}
-use Rattle.engine.specs.Replies.{TakesMemory}
-use Rattle.engine.proofs.Lending.{elsewhere, err_map, here, ok_map, unlent}
+use Rattle.engine.specs.Folders.{ByCalls, IsAnsweredBy, LacksAnswer, PagesOf}
+use Rattle.engine.proofs.Lending.{elsewhere, err_map, here, lacks_page, lacks_reply, ok_map, on_err, page_lent, pages_lent, unlent}
 use Rattle.engine.proofs.Runs.{chain_one}
 use Rattle.engine.proofs.folders.use_folder.Goals as goal
 
@@ -26,25 +26,49 @@ returns-in-ReadNames-clause-ok g c =
     let folder = g.D.Lent.Loan.shows c.in-Some.lent in
     let lent = g.met.D.Folders.lends c.args.dirs.now c.lend.new.self c.args.fh folder c.in-Some.ensures in
     let same : folder.number ≡ c.args.node = sym (c.number.ensures ∙ ap (λ (f : OpenFolder). f.number) c.listing.ensures) ∙ c.if-number-node.false in
-    let told = subst (λ (f : OpenFolder). IfOk c.names_reply.result (λ body. (page : Option (List Child)) × IsPaged false f.entries c.in-ReadNames.offset c.in-ReadNames.size page × (body ≡ names_reply c.in-ReadNames.offset page))) c.listing-in-ReadNames.ensures c.names_reply.ensures.ok in
-    ok_map c.names_reply.result (λ body. (page : Option (List Child)) × IsPaged false folder.entries c.in-ReadNames.offset c.in-ReadNames.size page × (body ≡ names_reply c.in-ReadNames.offset page))
-    (λ body. ByCalls g.D.Folders.keeps c.args.dirs.now c.lend.new.self (λ folders. IsUsed c.args.node c.args.fh c.args.usage folders body))
-    (λ body page. here g.D.Folders.keeps c.args.node c.args.fh c.args.usage folder [] body c.args.dirs.now c.lend.new.self c.lend.new.self c.in-Some.ensures refl lent same (rw c.in-ReadNames.is (refl, page.0, page.1, page.2)))
-    told
+    let body = c.in_ok-body-in-ReadNames.body in
+    let told = subst (λ (f : OpenFolder). (page : Option (List Child)) × IsPaged false f.entries c.in-ReadNames.offset c.in-ReadNames.size page × (body ≡ names_reply c.in-ReadNames.offset page)) c.listing-in-ReadNames.ensures c.in_ok-body-in-ReadNames.ensures.ok in
+    here g.D.Folders.keeps c.args.node c.args.fh c.args.usage folder [] body c.args.dirs.now c.lend.new.self c.lend.new.self c.in-Some.ensures refl lent same (rw c.in-ReadNames.is (refl, told.0, told.1, told.2))
 
-pub returns-in-ReadNames-clause-err : goal.returns-in-ReadNames-clause-err
-returns-in-ReadNames-clause-err g c =
+pub returns-in_err-body-in-ReadNames-clause-err : goal.returns-in_err-body-in-ReadNames-clause-err
+returns-in_err-body-in-ReadNames-clause-err g c =
     let folder = g.D.Lent.Loan.shows c.in-Some.lent in
     let lent = g.met.D.Folders.lends c.args.dirs.now c.lend.new.self c.args.fh folder c.in-Some.ensures in
     let same : folder.number ≡ c.args.node = sym (c.number.ensures ∙ ap (λ (f : OpenFolder). f.number) c.listing.ensures) ∙ c.if-number-node.false in
-    let told = subst (λ (f : OpenFolder). OnErr c.names_reply.result ((run : List Child) × IsPaged false f.entries c.in-ReadNames.offset c.in-ReadNames.size (Some run))) c.listing-in-ReadNames.ensures c.names_reply.ensures.err in
-    err_map c.names_reply.result ((run : List Child) × IsPaged false folder.entries c.in-ReadNames.offset c.in-ReadNames.size (Some run))
-    (ByCalls g.D.Folders.keeps c.args.dirs.now c.lend.new.self (λ folders. (meant : ReplyBody) × IsUsed c.args.node c.args.fh c.args.usage folders meant × TakesMemory meant))
-    (λ (run, paged).
-    let meant = names_reply c.in-ReadNames.offset (Some run) in
-    let used = here g.D.Folders.keeps c.args.node c.args.fh c.args.usage folder [] meant c.args.dirs.now c.lend.new.self c.lend.new.self c.in-Some.ensures refl lent same (rw c.in-ReadNames.is (refl, Some run, paged, refl)) in
-    record { folders = used.folders; chain = used.chain; so = (meant, used.so, tt) })
-    told
+    let told = subst (λ (f : OpenFolder). (run : List Child) × IsPaged false f.entries c.in-ReadNames.offset c.in-ReadNames.size (Some run)) c.listing-in-ReadNames.ensures c.in_err-body-in-ReadNames.ensures.err in
+    let meant = names_reply c.in-ReadNames.offset (Some told.0) in
+    let used = here g.D.Folders.keeps c.args.node c.args.fh c.args.usage folder [] meant c.args.dirs.now c.lend.new.self c.lend.new.self c.in-Some.ensures refl lent same (rw c.in-ReadNames.is (refl, Some told.0, told.1, refl)) in
+    on_err _ (ByCalls g.D.Folders.keeps c.args.dirs.now c.lend.new.self (λ folders. LacksAnswer c.args.node c.args.fh c.args.usage folders))
+    (lacks_reply g.D.Folders.keeps c.args.node c.args.fh c.args.usage meant c.args.dirs.now c.lend.new.self tt used)
+
+pub returns-in-ReadEntries-clause-ok : goal.returns-in-ReadEntries-clause-ok
+returns-in-ReadEntries-clause-ok g c =
+    let folder = g.D.Lent.Loan.shows c.in-Some.lent in
+    let lent = g.met.D.Folders.lends c.args.dirs.now c.lend.new.self c.args.fh folder c.in-Some.ensures in
+    let same : folder.number ≡ c.args.node = sym (c.number.ensures ∙ ap (λ (f : OpenFolder). f.number) c.listing.ensures) ∙ c.if-number-node.false in
+    let offset = c.in-ReadEntries.offset in
+    let size = c.in-ReadEntries.size in
+    let taken = subst (λ (f : OpenFolder). IfOk c.take_page.result (PagesOf f.entries offset size)) c.listing-in-ReadEntries.ensures c.take_page.ensures.ok in
+    rw c.in-ReadEntries.is
+    (ok_map c.take_page.result (PagesOf folder.entries offset size) (λ answer. ByCalls g.D.Folders.keeps c.args.dirs.now c.lend.new.self (λ folders. IsAnsweredBy c.args.node c.args.fh (ReadEntries offset size) folders answer))
+    (λ answer pages. pages_lent g.D.Folders.keeps c.args.node c.args.fh offset size folder answer c.args.dirs.now c.lend.new.self c.in-Some.ensures lent same pages)
+    taken)
+
+pub returns-in-ReadEntries-clause-err : goal.returns-in-ReadEntries-clause-err
+returns-in-ReadEntries-clause-err g c =
+    let folder = g.D.Lent.Loan.shows c.in-Some.lent in
+    let lent = g.met.D.Folders.lends c.args.dirs.now c.lend.new.self c.args.fh folder c.in-Some.ensures in
+    let same : folder.number ≡ c.args.node = sym (c.number.ensures ∙ ap (λ (f : OpenFolder). f.number) c.listing.ensures) ∙ c.if-number-node.false in
+    let offset = c.in-ReadEntries.offset in
+    let size = c.in-ReadEntries.size in
+    let taken = subst (λ (f : OpenFolder). OnErr c.take_page.result ((page : Paged) × IsPaged true f.entries offset size (Some page.entries) × (page.from ≡ offset))) c.listing-in-ReadEntries.ensures c.take_page.ensures.err in
+    rw c.in-ReadEntries.is
+    (err_map c.take_page.result ((page : Paged) × IsPaged true folder.entries offset size (Some page.entries) × (page.from ≡ offset))
+    (ByCalls g.D.Folders.keeps c.args.dirs.now c.lend.new.self (λ folders. LacksAnswer c.args.node c.args.fh (ReadEntries offset size) folders))
+    (λ (page, paged, from).
+    lacks_page g.D.Folders.keeps c.args.node c.args.fh offset size page c.args.dirs.now c.lend.new.self
+    (page_lent g.D.Folders.keeps c.args.node c.args.fh offset size folder page c.args.dirs.now c.lend.new.self c.in-Some.ensures lent same paged from))
+    taken)
 
 pub returns-in-GiveUp-clause-ok : goal.returns-in-GiveUp-clause-ok
 returns-in-GiveUp-clause-ok g c =

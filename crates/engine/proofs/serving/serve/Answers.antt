@@ -14,5 +14,5 @@ returns-clause-serves g c = record {
 
 pub returns-clause-hidden : goal.returns-clause-hidden
 returns-clause-hidden g c keeps =
-    run_keeps c.args.settings (traffic g.L.LinkIn.receives g.L.LinkOut.sends) (does g.C.Calls.gives g.D.Folders.keeps)
+    run_keeps c.args.session.settings (traffic g.L.LinkIn.receives g.L.LinkOut.sends) (does g.C.Calls.gives g.D.Folders.keeps)
     (around c.args.link.now c.args.served.now (world_of c.args.table.now)) (around c.serve_client-end.new.link (record c.serve_client-end.new.served { calls = c.remove_leftovers.new.calls }) (world_of c.serve_client-end.new.table)) c.serve_client-end.result c.attest.ensures keeps (returns-clause-serves g c)

@@ -12,9 +12,9 @@ abbrev pub invariant-loop : goal.invariant-loop
 invariant-loop g l = record {
   partial : IsPartial l.cutter.kept;
   on : l.cutter.stopped ≡ None;
-  settings : l.session.settings ≡ l.fn.settings;
+  settings : l.session.settings ≡ l.fn.session.settings;
   idle : IsIdle (world_of l.table);
   gains : GainsInAll (world_of l.initial.table) l.initial.share (world_of l.table) l.share;
-  walks : Walks worlds l.fn.settings (traffic g.L.LinkIn.receives g.L.LinkOut.sends) (does g.C.Calls.gives g.D.Folders.keeps)
+  walks : Walks worlds l.fn.session.settings (traffic g.L.LinkIn.receives g.L.LinkOut.sends) (does g.C.Calls.gives g.D.Folders.keeps)
       (side (around l.initial.link l.initial.served (stand (world_of l.initial.table) false)) []) (side (around l.link l.served (stand (world_of l.table) l.session.agreed)) l.cutter.kept);
 }

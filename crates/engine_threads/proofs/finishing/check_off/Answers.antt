@@ -5,7 +5,7 @@ use Rattle.engine_queues.specs.Gathered.{numbers_of, puts_of, takings_of}
 use Rattle.engine_queues.specs.Jobs.{AreTaken}
 use Rattle.engine_queues.specs.Replies.{AreGot}
 use Rattle.engine_queues.specs.declared.jobs.Hand.{Hand}
-use Rattle.engine_queues.specs.declared.job.Job.{Job}
+use Rattle.engine_turns.specs.declared.job.Job.{Job}
 use Rattle.engine_queues.specs.declared.replies.ReplyLane.{ReplyLane}
 use Rattle.engine_turns.specs.Queues.{JobQueue, ReplyQueue}
 use Rattle.engine_turns.specs.TableCalls.{on_table_of}

@@ -1,7 +1,7 @@
 use Rattle.std.proofs.Common.{vec_len, ◌+◌, ◌≡◌, ◌∙◌, ◌++◌, ◌∷◌, [], ℕ, suc, List, None, length, map, sym, ap, subst, arith}
 use Rattle.std.specs.Vec.Iter.{into_iter_items}
 use Rattle.std.specs.List.{range_with_len}
-use Rattle.engine_queues.specs.declared.job.Job.{Job}
+use Rattle.engine_turns.specs.declared.job.Job.{Job}
 use Rattle.engine_queues.specs.declared.passes.Passes.{Passes}
 use Rattle.engine_turns.specs.declared.replies.JobReply.{JobReply}
 use Rattle.ledger.specs.Shares.{Part}

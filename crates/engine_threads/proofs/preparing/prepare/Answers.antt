@@ -10,7 +10,7 @@ use Rattle.engine_threads.proofs.preparing.prepare.Goals as goal
 pub invariant_of-reader : goal.invariant_of-reader
 invariant_of-reader g c =
     let r = c.in_ok-jobs.field-0.reader in
-    record { within = r.within; stopped_by = r.stopped_by; seated = r.seated; some_part = r.some_part; takes_none = r.takes_none; counted = r.counted; numbered = r.numbered }
+    record { within = r.within; room_len = r.room_len; stopped_by = r.stopped_by; seated = r.seated; some_part = r.some_part; takes_none = r.takes_none; counted = r.counted; numbered = r.numbered }
 
 pub invariant_of-result : goal.invariant_of-result
 invariant_of-result g c =

@@ -1,7 +1,7 @@
 use Rattle.std.proofs.Common.{Some, refl}
 use Rattle.crossbeam_channel.specs.Claims.{IsSeatAt}
 use Rattle.crossbeam_channel.specs.Ends.{sends_on}
-use Rattle.engine_queues.specs.declared.job.Job.{Job}
+use Rattle.engine_turns.specs.declared.job.Job.{Job}
 use Rattle.engine_queues.specs.declared.passes.Passes.{Passes}
 use Rattle.engine_turns.specs.declared.replies.JobReply.{JobReply}
 use Rattle.engine_threads.specs.Worked.{IsSenderAt, IsTakerAt}

@@ -1,5 +1,5 @@
 use Rattle.std.proofs.Common.{Option, sym, subst}
-use Rattle.engine_queues.specs.declared.job.Job.{Job}
+use Rattle.engine_turns.specs.declared.job.Job.{Job}
 use Rattle.engine_turns.specs.TableCalls.{on_table_of}
 use Rattle.engine_threads.specs.Worked.{AnswersLast, does_shared, stand_of}
 use Rattle.engine_threads.proofs.Chains.{answers_one}

@@ -17,6 +17,6 @@ returns g c = inl (record {
   dirs = _;
   limits_are = c.requires.limits;
   dirs_left = c.serve-end.new.served.dirs;
-  run = c.serve-end.ensures.serves;
-  hidden = c.serve-end.ensures.hidden (subst (λ (w : World). KeepsHidden w) (sym c.in-Ok.ensures.opened) (opened_keeps _));
+  run = rw c.new-session.ensures.settings at c.serve-end.ensures.serves;
+  hidden = rw c.new-session.ensures.settings at (c.serve-end.ensures.hidden (subst (λ (w : World). KeepsHidden w) (sym c.in-Ok.ensures.opened) (opened_keeps _)));
 })

@@ -12,5 +12,5 @@ returns-clause-nearly c =
     let stood = sym c.in-Some.ensures.found in
     let some : 0 < x.count = omega arith in
     let made : c.post.new.self.made ≡ posted c.args.ledger.now.made (Back c.args.number x.generation) = c.post.ensures.made in
-    nearly_back (at_in c.args.tree.now) (at_in c.set_count.new.self) c.args.ledger.now.made c.post.new.self.made (kept_by c.args._flights.now c.args._files.now) c.args._pins.now c.args.number x
+    nearly_back (at_in c.args.tree.now) (at_in c.set_count.new.self) c.args.ledger.now.made c.post.new.self.made (kept_by c.args._keepers.flights.now c.args._keepers.files.now) c.args._pins.now c.args.number x
     c.requires.nearly stood some c.requires.suspect (c.set_count.ensures.writes x stood).nodes made c.set_count.ensures.tree

@@ -9,8 +9,8 @@ use Rattle.engine.proofs.requests.Session.settle.Goals as goal
 pub returns-in-None-clause-replies : goal.returns-in-None-clause-replies
 returns-in-None-clause-replies g c =
     let none = c.in-None.ensures.none in
-    starved_untaken g.L.Outlet.sends c.args.reply c.args.link.now c.refuse.new.link c.refuse.result none.0
-    (sent_from g.L.Outlet.sends c.args.link.now c.offer.new.link c.refuse.new.link (reply_bytes (refusal c.args.reply.unique ENOMEM)) c.refuse.result none.1 c.refuse.ensures)
+    starved_untaken g.L.Outlet.sends c.args.reply c.args.link.now c.refuse-sent.new.link c.refuse-sent.result none.0
+    (sent_from g.L.Outlet.sends c.args.link.now c.offer.new.link c.refuse-sent.new.link (reply_bytes (refusal c.args.reply.unique ENOMEM)) c.refuse-sent.result none.1 c.refuse-sent.ensures)
 
 pub returns-in-Some-clause-replies : goal.returns-in-Some-clause-replies
 returns-in-Some-clause-replies g c = record {

@@ -18,7 +18,7 @@ returns-in-Reply-clause-worked g c =
 
 pub returns-in-Folder-clause-worked : goal.returns-in-Folder-clause-worked
 returns-in-Folder-clause-worked g c =
-    used (by_rules g.R.Reach.steps c.args.self.now.settings g.L.Outlet.sends) (does g.C.Calls.gives g.D.Folders.keeps) c.args.frame.now c.in-Ok.request (record { fh = c.in-Folder.fh; usage = c.in-Folder.usage }) (around c.args.link.now c.args.served.now (g.R.Reach.world c.args.table.now)) (around c.use_folder.new.link c.use_folder.new.served (g.R.Reach.world c.use_folder.new.table)) c.use_folder.result
+    used (by_rules g.R.Reach.steps c.args.self.now.settings g.L.Outlet.sends) (does g.C.Calls.gives g.D.Folders.keeps) c.args.frame.now c.in-Ok.request c.in-Folder.fh c.in-Folder.usage (around c.args.link.now c.args.served.now (g.R.Reach.world c.args.table.now)) (around c.use_folder.new.link c.use_folder.new.served (g.R.Reach.world c.use_folder.new.table)) c.use_folder.result
     c.in-Ok.ensures.found c.in-Folder.ensures c.use_folder.ensures.used
 
 pub returns-in-Forget-clause-worked : goal.returns-in-Forget-clause-worked
@@ -35,34 +35,34 @@ pub returns-in-Nothing-clause-worked : goal.returns-in-Nothing-clause-worked
 returns-in-Nothing-clause-worked g c =
     passed_over (by_rules g.R.Reach.steps c.args.self.now.settings g.L.Outlet.sends) (does g.C.Calls.gives g.D.Folders.keeps) c.args.frame.now c.in-Ok.request (around c.args.link.now c.args.served.now (g.R.Reach.world c.args.table.now)) c.in-Ok.ensures.found c.in-Nothing.ensures
 
-pub returns-in-Nothing-clause-gains : goal.returns-in-Nothing-clause-gains
-returns-in-Nothing-clause-gains g c = c.attest.ensures c.args.share.now
+pub returns-in-Nothing-clause-keeps : goal.returns-in-Nothing-clause-keeps
+returns-in-Nothing-clause-keeps g c = record { terms = record { settings = refl; agreed = refl }; gains = c.attest.ensures c.args.share.now }
 
 pub returns-in-Forget-clause-idle : goal.returns-in-Forget-clause-idle
 returns-in-Forget-clause-idle g c =
     g.met.R.Reach.forgets_idle (g.R.Reach.world c.args.table.now) (g.R.Reach.world c.forget.new.self) c.in-Forget.lookups.node c.in-Forget.lookups.nlookup c.requires.idle c.forget.ensures.forgets
 
-pub returns-in-Err-clause-gains : goal.returns-in-Err-clause-gains
-returns-in-Err-clause-gains g c = c.attest.ensures c.args.share.now
+pub returns-in-Err-clause-keeps : goal.returns-in-Err-clause-keeps
+returns-in-Err-clause-keeps g c = record { terms = record { settings = refl; agreed = refl }; gains = c.attest.ensures c.args.share.now }
 
-pub returns-in-Reply-clause-gains : goal.returns-in-Reply-clause-gains
-returns-in-Reply-clause-gains g c = c.attest.ensures c.args.share.now
+pub returns-in-Reply-clause-keeps : goal.returns-in-Reply-clause-keeps
+returns-in-Reply-clause-keeps g c = record { terms = c.answer.ensures.keeps; gains = c.attest.ensures c.args.share.now }
 
-pub returns-in-Forget-clause-gains : goal.returns-in-Forget-clause-gains
-returns-in-Forget-clause-gains g c = c.forget.ensures.gains
+pub returns-in-Forget-clause-keeps : goal.returns-in-Forget-clause-keeps
+returns-in-Forget-clause-keeps g c = record { terms = record { settings = refl; agreed = refl }; gains = c.forget.ensures.gains }
 
 pub returns-in-File-clause-worked : goal.returns-in-File-clause-worked
 returns-in-File-clause-worked g c =
     asked_of_file (by_rules g.R.Reach.steps c.args.self.now.settings g.L.Outlet.sends) (does g.C.Calls.gives g.D.Folders.keeps) c.args.frame.now c.in-Ok.request c.in-File.fh c.find.result c.file_reply-body.result (around c.args.link.now c.args.served.now (g.R.Reach.world c.args.table.now)) (g.R.Reach.world c.find.new.self) c.answer-in-File.new.link c.answer-in-File.result
     c.in-Ok.ensures.found c.in-File.ensures c.find.ensures.finds c.file_reply-body.ensures c.answer-in-File.ensures.said
 
-pub returns-in-File-clause-gains : goal.returns-in-File-clause-gains
-returns-in-File-clause-gains g c = c.find.ensures.gains c.args.share.now
+pub returns-in-File-clause-keeps : goal.returns-in-File-clause-keeps
+returns-in-File-clause-keeps g c = record { terms = c.answer-in-File.ensures.keeps; gains = c.find.ensures.gains c.args.share.now }
 
 pub returns-in-File-clause-idle : goal.returns-in-File-clause-idle
 returns-in-File-clause-idle g c = g.met.R.Reach.finds_idle (g.R.Reach.world c.args.table.now) (g.R.Reach.world c.find.new.self) c.in-File.fh c.find.result c.requires.idle c.find.ensures.finds
 
 pub returns-in-Want-clause-worked : goal.returns-in-Want-clause-worked
 returns-in-Want-clause-worked g c =
-    carried (by_rules g.R.Reach.steps c.args.self.now.settings g.L.Outlet.sends) (does g.C.Calls.gives g.D.Folders.keeps) c.args.frame.now c.in-Ok.request (want_of c.in-Want.wanted) (around c.args.link.now c.args.served.now (g.R.Reach.world c.args.table.now)) (around c.run_wanted.new.link c.run_wanted.new.served (g.R.Reach.world c.run_wanted.new.table)) c.run_wanted.result
-    c.in-Ok.ensures.found c.in-Want.ensures c.run_wanted.ensures.runs_out
+    carried (by_rules g.R.Reach.steps c.args.self.now.settings g.L.Outlet.sends) (does g.C.Calls.gives g.D.Folders.keeps) c.args.frame.now c.in-Ok.request (want_of c.in-Want.wanted) (around c.args.link.now c.args.served.now (g.R.Reach.world c.args.table.now)) (around c.run.new.link c.run.new.served (g.R.Reach.world c.run.new.table)) c.run.result
+    c.in-Ok.ensures.found c.in-Want.ensures (c.run.ensures.runs_out [])

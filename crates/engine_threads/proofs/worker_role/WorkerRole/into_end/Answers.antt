@@ -1,7 +1,7 @@
 use Rattle.std.proofs.Common.{◌∙◌, Option, refl, sym, ap, subst}
 use Rattle.crossbeam_channel.specs.Claims.{IsSeatAt, view}
 use Rattle.crossbeam_channel.specs.Ends.{receives_on, sends_on}
-use Rattle.engine_queues.specs.declared.job.Job.{Job}
+use Rattle.engine_turns.specs.declared.job.Job.{Job}
 use Rattle.engine_turns.specs.Queues.{JobQueue, ReplyQueue}
 use Rattle.engine_turns.specs.TableCalls.{OnTable, on_table_of}
 use Rattle.engine_threads.specs.Worked.{AnswersLast, Stand, does_shared, stand, stand_of}

@@ -1,16 +1,21 @@
-use Rattle.std.proofs.Common.{◌≡◌, ℕ, Bool, List, Option, Some, None, Err, take, inl, inr, ap₂, refl, sym, ap, ◌∙◌, ◌++◌, subst}
+use Rattle.std.proofs.Common.{◌≡◌, ℕ, Bool, List, Option, Some, None, Err, [], ◌∷◌, drop, take, inl, inr, ap₂, refl, sym, ap, ◌∙◌, ◌++◌, subst}
 use Rattle.std.specs.Option.{option_map}
 use Rattle.wire.specs.Stream.{Cutting}
 use Rattle.engine.specs.declared.ends.SessionEnd.TheVariants as ends
-use Rattle.engine_queues.specs.declared.job.Job.{Job}
+use Rattle.engine_turns.specs.declared.job.Job.{Job}
 use Rattle.engine_turns.specs.Shown.{progress, shown}
-use Rattle.engine_turns.specs.Verdicts.{EndsSession, Queued}
+use Rattle.engine_turns.specs.Verdicts.{EndsSession, IsVerdict, Queued}
+use Rattle.engine_turns.specs.declared.reader.TheConstants.{GAP}
 use Rattle.engine_turns.proofs.Receiving.{stopped_after}
 use Rattle.engine_turns.proofs.Queuing.{all_queued, nothing_queued, one_queued, told_same}
 use Rattle.engine_turns.proofs.reader.Reader.queue_all.Goals as goal
 
 shown_as : (job : Job) (agreed : Bool) (frame : List ℕ) → job.agreed ≡ agreed → job.frame.items ≡ frame → shown job ≡ record { agreed = agreed; frame = frame }
 shown_as job agreed frame a f = ap₂ (λ (b : Bool) (bytes : List ℕ). record { agreed = b; frame = bytes }) a f
+
+-- another one, shown as the same, does not end the session
+going_on : (one other : Queued) → one ≡ other → (EndsSession one.agreed one.frame → ⊥) → EndsSession other.agreed other.frame → ⊥
+going_on one other is not_over = subst (λ (q : Queued). EndsSession q.agreed q.frame → ⊥) is not_over
 
 pub loop-frame-init : goal.loop-frame-init
 loop-frame-init g c = record { so_far = nothing_queued _; queue = refl; parts = refl }
@@ -24,12 +29,13 @@ pub returns-then-ends_session-clause-all : goal.returns-then-ends_session-clause
 returns-then-ends_session-clause-all g c =
     let l = c.loop-frame.self in
     let frame = rw c.in-Ok-Some.field-0-is at c.in-Ok-Some.ensures.frame in
-    let job = c.job_of.ensures in
+    let job = c.new-job.ensures in
+    let is = shown_as c.new-job.result l.agreed c.in-Ok-Some.frame.items job.1 (ap (λ v. v.items) job.2) in
     all_queued (progress c.args.self.now) (progress l) _ (Some ends.Destroyed) c.loop-frame.invariant.so_far refl refl refl (
       c.in-Ok-Some.frame.items,
       frame.front,
-      subst (λ (f : List ℕ). EndsSession l.agreed f) c.as_slice.ensures (c.ends_session.ensures.yes c.if-ends_session.true),
-      record { last_job_is = ap (λ (q : Queued). Some q) (shown_as c.job_of.result l.agreed c.in-Ok-Some.frame.items job.1 (ap (λ v. v.items) job.2)); handed_back_is = refl },
+      subst (λ (q : Queued). EndsSession q.agreed q.frame) is (c.ends_session.ensures.yes c.if-ends_session.true),
+      record { last_job_is = ap (λ (q : Queued). Some q) is; handed_back_is = refl },
     )
 
 -- it does not end the session
@@ -40,9 +46,11 @@ returns-then-not-queue-clause-all g c =
     let no = c.queue.ensures.no c.if-not-queue.true in
     let items = c.in-Ok-Some.frame.items in
     let frame = rw c.in-Ok-Some.field-0-is at c.in-Ok-Some.ensures.frame in
-    let other : EndsSession l.agreed items → ⊥ = λ f. c.ends_session.ensures.no c.if-ends_session.false (subst (λ (b : List ℕ). EndsSession l.agreed b) (sym c.as_slice.ensures) f) in
+    let job = c.new-job.ensures in
+    let is = shown_as c.new-job.result l.agreed items job.1 (ap (λ v. v.items) job.2) in
+    let other : EndsSession l.agreed items → ⊥ = going_on (shown c.new-job.result) (record { agreed = l.agreed; frame = items }) is (c.ends_session.ensures.no c.if-ends_session.false) in
     all_queued (progress c.args.self.now) (progress l) (progress n) (Some ends.Memory) c.loop-frame.invariant.so_far no.0 no.1
-    (ap₂ (λ (k : ℕ) (bytes : List ℕ). take k bytes) c.queue.ensures.room.1 (ap (λ v. v.items) c.queue.ensures.room.0))
+    (ap₂ (λ (k : ℕ) (bytes : List ℕ). take k (drop GAP bytes)) c.queue.ensures.room.1 (ap (λ v. v.items) c.queue.ensures.room.0))
     (inr (record {
       frame = items;
       front = frame.front ∙ ap (λ (k : Cutting). items ++ k.kept) (sym c.queue.ensures.cutter);
@@ -50,7 +58,7 @@ returns-then-not-queue-clause-all g c =
       other = subst (λ (b : Bool). EndsSession b items → ⊥) (sym no.1) other;
       tells = record {
         last_job_is = ap (λ (j : Option Job). option_map shown j) c.queue.ensures.last_job;
-        handed_back_is = no.2 ∙ ap (λ (b : Bool). Some (record { agreed = b; frame = items })) (sym no.1);
+        handed_back_is = no.2 ∙ (ap (λ (q : Queued). Some q) is ∙ ap (λ (b : Bool). Some (record { agreed = b; frame = items })) (sym no.1));
       };
     }))
 
@@ -61,12 +69,16 @@ loop-frame-preserved g c =
     let frame = rw c.in-Ok-Some.field-0-is at c.in-Ok-Some.ensures.frame in
     let yes = c.queue.ensures.yes c.if-not-queue.false in
     let room = c.queue.ensures.room in
+    let items = c.in-Ok-Some.frame.items in
+    let job = c.new-job.ensures in
+    let is = shown_as c.new-job.result l.agreed items job.1 (ap (λ v. v.items) job.2) in
     record {
-      so_far = one_queued (progress c.args.self.now) (progress l) (progress n) c.in-Ok-Some.frame.items c.loop-frame.invariant.so_far
-          (frame.front ∙ ap (λ (k : Cutting). c.in-Ok-Some.frame.items ++ k.kept) (sym c.queue.ensures.cutter)) frame.framed
-          (λ f. c.ends_session.ensures.no c.if-ends_session.false (subst (λ (b : List ℕ). EndsSession l.agreed b) (sym c.as_slice.ensures) f)) yes.1 yes.0
+      so_far = one_queued (progress c.args.self.now) (progress l) (progress n) items c.loop-frame.invariant.so_far
+          (frame.front ∙ ap (λ (k : Cutting). items ++ k.kept) (sym c.queue.ensures.cutter)) frame.framed
+          (going_on (shown c.new-job.result) (record { agreed = l.agreed; frame = items }) is (c.ends_session.ensures.no c.if-ends_session.false))
+          (subst (λ (q : Queued). IsVerdict q.agreed q.frame n.agreed) is yes.1) (yes.0 ∙ ap (λ (q : Queued). (progress l).put ++ q ∷ []) is)
           (record { last_job_is = ap (λ (j : Option Job). option_map shown j) c.queue.ensures.last_job; handed_back_is = ap (λ (j : Option Job). option_map shown j) yes.2 })
-          (ap₂ (λ (k : ℕ) (bytes : List ℕ). take k bytes) room.1 (ap (λ v. v.items) room.0));
+          (ap₂ (λ (k : ℕ) (bytes : List ℕ). take k (drop GAP bytes)) room.1 (ap (λ v. v.items) room.0));
       queue = c.queue.ensures.queue ∙ c.loop-frame.invariant.queue;
       parts = c.queue.ensures.parts ∙ c.loop-frame.invariant.parts;
     }
@@ -90,3 +102,18 @@ pub invariant_of-self-in-Err-1-clause-stopped_by : goal.invariant_of-self-in-Err
 invariant_of-self-in-Err-1-clause-stopped_by g c =
     let e = c.next.ensures in
     stopped_after (λ f. f.items) c.loop-frame.self.cutter c.next.new.self c.next.result e.frame e.none e.bad e.for_good e.memory c.loop-frame.self.stopped_by
+
+pub invariant_of-self-else-ends_session : goal.invariant_of-self-else-ends_session
+invariant_of-self-else-ends_session g c =
+    let l = c.loop-frame.self in
+    let e = c.next.ensures in
+    record {
+      within = l.within;
+      room_len = l.room_len;
+      stopped_by = stopped_after (λ f. f.items) l.cutter c.next.new.self c.next.result e.frame e.none e.bad e.for_good e.memory l.stopped_by;
+      seated = l.seated;
+      some_part = l.some_part;
+      takes_none = l.takes_none;
+      counted = l.counted;
+      numbered = l.numbered;
+    }

@@ -2,7 +2,7 @@ use Rattle.std.proofs.Common.{◌≡◌, Option, sym, ap, subst}
 use Rattle.std.specs.Option.{option_map}
 use Rattle.crossbeam_channel.specs.Claims.{view}
 use Rattle.engine.specs.declared.ends.SessionEnd.{SessionEnd}
-use Rattle.engine_queues.specs.declared.job.Job.{Job}
+use Rattle.engine_turns.specs.declared.job.Job.{Job}
 use Rattle.engine_queues.specs.declared.jobs.Hand.{Hand}
 use Rattle.engine_turns.specs.Shown.{progress, queued_of, shown}
 use Rattle.engine_turns.specs.Reads.{HasReadAll}

@@ -14,28 +14,28 @@ use Rattle.engine_turns.proofs.Answering.{none_more}
 use Rattle.engine_turns.proofs.working.Worker.put.Goals as goal
 
 pub returns-in_default-clause-puts : goal.returns-in_default-clause-puts
-returns-in_default-clause-puts g c = record { folders = []; chain = refl; calls = []; on_table = none_more (on_table_of c.args.table_handle.now.thread_log); so = none (ap bytes_in c.in_default.is) refl c.parted-left.ensures.settled refl refl }
+returns-in_default-clause-puts g c = record { folders = []; chain = refl; calls = []; on_table = none_more (on_table_of c.args.table_handle.now.thread_log); so = none (ap bytes_in c.in_default.is) refl c.into_parts-left.ensures.settled refl refl }
 
 pub send_as-requires-clause-rule : goal.send_as-requires-clause-rule
 send_as-requires-clause-rule g c = (posts _ _ _ _ c.args.self.now.sends (sym c.args.self.now.from), λ items views b at. tt)
 
 pub returns-in-Ok-clause-puts : goal.returns-in-Ok-clause-puts
 returns-in-Ok-clause-puts g c =
-    let r = c.reply_to.ensures in
+    let r = c.new.ensures in
     record {
       folders = [];
       chain = refl;
       calls = [];
       on_table = none_more (on_table_of c.args.table_handle.now.thread_log);
-      so = is_put (bytes_of c.in-Some.bytes) (record { from = c.args.self.now.number; reply = c.reply_to.result }) (ap bytes_in c.in-Some.is)
-          (record { from_is = refl; settings_are = r.0; job_is = r.1; bytes_are = ap bytes_of r.2; left_is = r.3 ∙ c.parted-left.ensures.left })
-          (ap (λ (l : ReplyLane JobReply). outbox l c.args.self.now.handed_back) c.in-Ok.ensures.rule) c.parted-left.ensures.settled refl refl;
+      so = is_put (bytes_of c.in-Some.bytes) (record { from = c.args.self.now.number; reply = c.new.result }) (ap bytes_in c.in-Some.is)
+          (record { from_is = refl; settings_are = r.0; job_is = r.1; bytes_are = ap bytes_of r.2; left_is = r.3 ∙ c.into_parts-left.ensures.left })
+          (ap (λ (l : ReplyLane JobReply). outbox l c.args.self.now.handed_back) c.in-Ok.ensures.rule) c.into_parts-left.ensures.settled refl refl;
     }
 
 pub returns-in-Err-clause-puts : goal.returns-in-Err-clause-puts
 returns-in-Err-clause-puts g c =
     let back = c.into_inner-reply.ensures ∙ c.in-Err.ensures.rule.0 in
-    let left : c.into_left-left.result ≡ left_in (turn_end_of c.args.turn_result) = c.into_left-left.ensures ∙ (ap (λ (q : QueuedReply JobReply). q.reply.left) back ∙ (c.reply_to.ensures.3 ∙ c.parted-left.ensures.left)) in
+    let left : c.into_left-left.result ≡ left_in (turn_end_of c.args.turn_result) = c.into_left-left.ensures ∙ (ap (λ (q : QueuedReply JobReply). q.reply.left) back ∙ (c.new.ensures.3 ∙ c.into_parts-left.ensures.left)) in
     let up = c.settle_left-untaken.ensures.ends in
     let so = subst (λ (o : Option Left). IsEnded o false (ending c.settle_left-untaken.result up.folders up.calls)) left up.so in
     record {
@@ -43,5 +43,5 @@ returns-in-Err-clause-puts g c =
       chain = up.chain;
       calls = up.calls;
       on_table = up.on_table;
-      so = handed_back (bytes_of c.in-Some.bytes) (ap bytes_in c.in-Some.is) (ap (λ (l : ReplyLane JobReply). outbox l (c.args.self.now.handed_back + 1)) c.in-Err.ensures.rule.1) (c.or.ensures ∙ (ap (λ (o : Option Settlement). option_or o c.parted-left.result.1) so.settled_is ∙ ap (λ (o : Option Settlement). option_or (ended_as (left_in (turn_end_of c.args.turn_result)) false) o) c.parted-left.ensures.settled)) so.gives_up so.settles;
+      so = handed_back (bytes_of c.in-Some.bytes) (ap bytes_in c.in-Some.is) (ap (λ (l : ReplyLane JobReply). outbox l (c.args.self.now.handed_back + 1)) c.in-Err.ensures.rule.1) (c.or.ensures ∙ (ap (λ (o : Option Settlement). option_or o c.into_parts-left.result.1) so.settled_is ∙ ap (λ (o : Option Settlement). option_or (ended_as (left_in (turn_end_of c.args.turn_result)) false) o) c.into_parts-left.ensures.settled)) so.gives_up so.settles;
     }

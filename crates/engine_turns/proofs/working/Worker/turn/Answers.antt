@@ -2,7 +2,7 @@ use Rattle.std.proofs.Common.{◌≡◌, Option, ap, subst₂, arith}
 use Rattle.table_steps.specs.Answers.{Settlement}
 use Rattle.crossbeam_channel.specs.Claims.{view}
 use Rattle.engine.specs.Serving.{does}
-use Rattle.engine_queues.specs.declared.job.Job.{Job}
+use Rattle.engine_turns.specs.declared.job.Job.{Job}
 use Rattle.engine_queues.proofs.JobSteps.{takes as takes_one}
 use Rattle.engine_queues.specs.declared.jobs.Hand.{Hand}
 use Rattle.engine_turns.specs.TableCalls.{on_table_of}

@@ -1,0 +1,65 @@
+//! What is kept open goes where names go.
+
+ghost use Rattle.std.specs.Prelude.{◌≡◌, ◌++◌, ◌∷◌, []};
+ghost use Rattle.paths.specs.Prefixes.{Names};
+ghost use Rattle.disk.specs.Answers.{AreApart};
+ghost use Rattle.disk_folder.specs.Moving.{Follows};
+ghost use Rattle.disk_folder.specs.Standing.{IsHeld, IsHeldAt, KeepsAll};
+
+use crate::open_cache::OpenCache;
+use crate::opened::Entry;
+use crate::trouble::Trouble;
+use backing::Answer;
+use disk::Disk;
+use payload::Kind;
+
+/// Whether what is kept there is reached by its name.
+fn is_by_name<D: Disk>(
+    disk: &D,
+    cache: &mut OpenCache<D::Handle>,
+    entry: &Entry<'_, D::Handle>,
+) -> bool
+    requires { IsHeld cache.old entry.now.folder }
+    ensures { KeepsAll cache.old cache.new }
+{
+    match cache.child(&entry.folder, entry.name) {
+        Some(place) => disk.is_by_name(&cache.cache.value(place).handle),
+        None => false,
+    }
+}
+
+/// What is kept under the one name is kept under the other one. Where it is reached by its name, all is closed.
+pub fn follow<D: Disk>(
+    disk: &D,
+    cache: &mut OpenCache<D::Handle>,
+    source: &Entry<'_, D::Handle>,
+    target: &Entry<'_, D::Handle>,
+)
+    requires { IsHeld cache.old source.now.folder }
+    ensures { (up above : Names) → IsHeldAt cache.old source.now.folder up → IsHeldAt cache.old target.now.folder above → AreApart (up ++ source.now.name.now ∷ []) (above ++ target.now.name.now ∷ []) → Follows cache.old (up ++ source.now.name.now ∷ []) (above ++ target.now.name.now ∷ []) cache.new }
+{
+    if is_by_name(disk, cache, source) {
+        cache.clear();
+    } else {
+        cache.relocate(source, target);
+    }
+}
+
+/// Where a folder was moved, or may have been, others who serve it hear of that.
+pub fn note_move<D: Disk>(
+    disk: &D,
+    cache: &mut OpenCache<D::Handle>,
+    kind: Kind,
+    moved: &Result<Answer, Trouble>,
+)
+    ensures { cache.new.cache ≡ cache.old.cache }
+{
+    let is_done = matches!(moved, Ok(_) | Err(Trouble::Failed(_)));
+    if !is_done || !matches!(kind, Kind::Folder) {
+        return;
+    }
+    disk.note_move();
+    if moved.is_ok() {
+        cache.hear_own(disk.moves());
+    }
+}

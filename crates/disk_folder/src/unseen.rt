@@ -1,0 +1,144 @@
+//! Moves of what no look has shown. Where a look would show all that a call meets, the call that succeeds says as much; where it says why
+//! nothing was moved, nothing is answered here, and the move is asked for again behind looks.
+
+ghost use Rattle.std.specs.Prelude.{◌≡◌, ◌++◌, ◌∷◌, [], IsTrue, IfOk, IfSome};
+ghost use Rattle.paths.specs.Prefixes.{Names};
+ghost use Rattle.backing.specs.declared.call.Answer.TheVariants.{Done};
+ghost use Rattle.backing.specs.Calls.{AskRename, AskRenameNew};
+ghost use Rattle.backing.specs.Tree.{Resolves};
+ghost use Rattle.disk.specs.Answers.{AreApart};
+ghost use Rattle.disk_folder.specs.Ends.{EndsOrStays};
+ghost use Rattle.disk_folder.specs.Moving.{IsLost, MovesOrStays};
+ghost use Rattle.disk_folder.specs.Standing.{AllStand, IsEntry, IsFolderAt};
+
+use crate::following::follow;
+use crate::open_cache::OpenCache;
+use crate::opened::Entry;
+use crate::renaming::{expect_target, go_both, see_target};
+use crate::trouble::Trouble;
+use backing::Answer;
+use disk::{Disk, DiskError};
+use paths::Path;
+
+/// Whether no look at the source is needed: nothing is hidden from it, nobody else is to hear whether a folder moves, and both paths may be.
+fn needs_no_look<D: Disk>(disk: &D, from: &Path, to: &Path) -> bool
+    ensures { IsTrue result → AreApart from.now to.now }
+{
+    if from.is_prefix_of(to) {
+        return false;
+    }
+    if to.is_prefix_of(from) {
+        return false;
+    }
+    disk.shows_all() && !disk.is_shared()
+}
+
+/// The failure of a call that may have been done. Any other error says why nothing was changed.
+fn lost(error: DiskError) -> Option<Trouble>
+    ensures { IsLost error result }
+{
+    match error {
+        DiskError::Failed(errno) => Some(Trouble::Failed(errno)),
+        DiskError::Absent
+        | DiskError::Exists
+        | DiskError::NotFolder
+        | DiskError::IsFolder
+        | DiskError::NotEmpty => None,
+    }
+}
+
+/// Renames from an open folder to an open folder. Where the system failed, all is closed.
+fn move_in<D: Disk>(
+    disk: &mut D,
+    cache: &mut OpenCache<D::Handle>,
+    source: &Entry<'_, D::Handle>,
+    target: &Entry<'_, D::Handle>,
+) -> Option<Result<Answer, Trouble>>
+    requires source { IsEntry cache.old source.now }
+    requires target { IsEntry cache.old target.now }
+    ensures suits { IfSome result (λ ended. IfOk ended (λ answer. answer ≡ Done)) }
+    ensures moves { (up up' : Names) → IsFolderAt (D.tree disk.old) (D.stands disk.old) cache.old source.now.folder up → IsFolderAt (D.tree disk.old) (D.stands disk.old) cache.old target.now.folder up' → AreApart (up ++ source.now.name.now ∷ []) (up' ++ target.now.name.now ∷ []) → MovesOrStays (D.tree disk.old) (D.stands disk.old) (up ++ source.now.name.now ∷ []) (up' ++ target.now.name.now ∷ []) result (D.tree disk.new) (D.stands disk.new) }
+    ensures stand { (up up' : Names) → IsFolderAt (D.tree disk.old) (D.stands disk.old) cache.old source.now.folder up → IsFolderAt (D.tree disk.old) (D.stands disk.old) cache.old target.now.folder up' → AreApart (up ++ source.now.name.now ∷ []) (up' ++ target.now.name.now ∷ []) → AllStand (D.tree disk.new) (D.stands disk.new) cache.new }
+{
+    match disk.rename(
+        &cache.open(&source.folder).handle,
+        source.name,
+        &cache.open(&target.folder).handle,
+        target.name,
+    ) {
+        Ok(()) => {
+            follow(disk, cache, source, target);
+            Some(Ok(Answer::Done))
+        }
+        Err(error) => match lost(error) {
+            Some(trouble) => {
+                cache.clear();
+                Some(Err(trouble))
+            }
+            None => None,
+        },
+    }
+}
+
+/// Renames, to a path to which folders lead.
+fn move_both<D: Disk>(
+    disk: &mut D,
+    cache: &mut OpenCache<D::Handle>,
+    from: &Path,
+    to: &Path,
+) -> Option<Result<Answer, Trouble>>
+    requires { AreApart from.now to.now }
+    ensures suits { IfSome result (λ ended. IfOk ended (λ answer. answer ≡ Done)) }
+    ensures moves { AllStand (D.tree disk.old) (D.stands disk.old) cache.old → Resolves (D.tree disk.old) to.now → MovesOrStays (D.tree disk.old) (D.stands disk.old) from.now to.now result (D.tree disk.new) (D.stands disk.new) }
+    ensures stand { AllStand (D.tree disk.old) (D.stands disk.old) cache.old → Resolves (D.tree disk.old) to.now → AllStand (D.tree disk.new) (D.stands disk.new) cache.new }
+{
+    match go_both(disk, cache, from, to) {
+        Ok((source, target)) => move_in(disk, cache, &source, &target),
+        Err(_) => None,
+    }
+}
+
+/// Gives what stands at the one path the other one, where no look at either is needed: one call.
+pub fn rename_unseen<D: Disk>(
+    disk: &mut D,
+    cache: &mut OpenCache<D::Handle>,
+    from: &Path,
+    to: &Path,
+) -> Option<Result<Answer, Trouble>>
+    ensures suits { IfSome result (λ ended. IfOk ended (λ answer. answer ≡ Done)) }
+    ensures ends { AllStand (D.tree disk.old) (D.stands disk.old) cache.old → EndsOrStays (D.tree disk.old) (AskRename from.now to.now) result (D.tree disk.new) }
+    ensures stand { AllStand (D.tree disk.old) (D.stands disk.old) cache.old → AllStand (D.tree disk.new) (D.stands disk.new) cache.new }
+{
+    if !needs_no_look(disk, from, to) {
+        return None;
+    }
+    match expect_target(disk, cache, to) {
+        Ok(()) => move_both(disk, cache, from, to),
+        Err(_) => None,
+    }
+}
+
+/// Gives what stands at the one path the other one, where no look at it is needed: a look at the other one, at which nothing is to stand, and one call.
+pub fn rename_new_unseen<D: Disk>(
+    disk: &mut D,
+    cache: &mut OpenCache<D::Handle>,
+    from: &Path,
+    to: &Path,
+) -> Option<Result<Answer, Trouble>>
+    ensures suits { IfSome result (λ ended. IfOk ended (λ answer. answer ≡ Done)) }
+    ensures ends { AllStand (D.tree disk.old) (D.stands disk.old) cache.old → EndsOrStays (D.tree disk.old) (AskRenameNew from.now to.now) result (D.tree disk.new) }
+    ensures stand { AllStand (D.tree disk.old) (D.stands disk.old) cache.old → AllStand (D.tree disk.new) (D.stands disk.new) cache.new }
+{
+    if !needs_no_look(disk, from, to) {
+        return None;
+    }
+    match see_target(disk, cache, to) {
+        Ok(taken) => {
+            if taken {
+                return None;
+            }
+            move_both(disk, cache, from, to)
+        }
+        Err(_) => None,
+    }
+}

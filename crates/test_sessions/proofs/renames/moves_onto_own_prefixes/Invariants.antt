@@ -1,5 +1,0 @@
-use Rattle.test_sessions.proofs.renames.moves_onto_own_prefixes.Given as goal
-
--- the table's four ledgers are those of the blanks
-abbrev pub ghosts-tell : goal.ghosts-tell
-ghosts-tell g a = record { names = a.blanks }
