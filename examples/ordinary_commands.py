@@ -3,7 +3,9 @@
 # What may be missing: a command that names one of them is skipped then.
 PROGRAMS = "git gunzip gzip install make patch python3 rsync setfattr setpriv tar xz".split()
 # `show` tells names, kinds, permission bits, owners, sizes of files and times of modification.
-SHOW = """show() { find "$@" -type d -printf '%p/ %m %U %G %T@\\n' -o -printf '%p %m %U %G %s %T@\\n' | sort; }; """
+# `names` tells of names which are one file, by the line of its first name, with their link counts; a mount may tell what was for a second.
+SHOW = """names() { sleep 1.2; find "$@" ! -type d -printf '%i %n %p\\n' | sort -k 3 | awk '{ if (!($1 in first)) first[$1] = NR; print first[$1], $2, $3 }'; }
+show() { find "$@" -type d -printf '%p/ %m %U %G %T@\\n' -o -printf '%p %m %U %G %s %T@\\n' | sort; }; """
 
 COMMANDS = """
 ls
@@ -51,6 +53,7 @@ find . -type f -name 'b*' | sort
 find . -type d | sort
 find . -size +100k
 stat -c '%s %F' numbers
+python3 -c "import os; f = os.open('room', os.O_RDWR | os.O_CREAT); os.posix_fallocate(f, 5, 9000); print(os.fstat(f).st_size)" && md5sum room && rm room
 test -f numbers && test -d d && test ! -e none
 echo *
 (exec 3< lines; rm lines; cat <&3; ls)
@@ -169,7 +172,7 @@ rsync -a own/ own3 && show own3 | cut -d' ' -f1-4
 rm -r own own2 own3 sg
 """.strip().split("\n")
 
-# Links, which the client follows and the server never does. Their times cannot be set.
+# Symbolic links, which the client follows and the server never does. Their times cannot be set.
 LINKS = r"""
 echo text > lf && ln -s lf l && cat l && readlink l && stat -c '%F %s %A' l
 ln -s lf l
@@ -195,6 +198,48 @@ rm -rf ld ld2 ld3 lx lg lc synced && ls -l | awk '{ print $1, $9, $10, $11 }'
 rm -f out odd here moved round l lf copied
 """.strip().split("\n")
 
+# Files by several names, with whatever attributes.
+TWO_NAMES = r"""
+echo one > ha && ln ha hb && cat hb
+ln ha hb
+mkdir hd; ln hd he
+ln none he; ln ha hd/x/y; ln ha hb/x; ls hd
+link ha hc && cat hc && unlink hc; cat hc
+echo two >> ha && sleep 1.2 && cat hb && echo three >> hb && sleep 1.2 && cat ha
+ln ha hd/x && ln ha hb hd/ && ls hd && cat hd/hb && mv hd/x . && cat x hd/ha && rm x
+truncate -s 4 hd/ha && sleep 1.2 && cat ha && printf ONE | dd of=hb conv=notrunc status=none && sleep 1.2 && cat ha hd/ha
+ln ha hc && (exec 3<> hc; rm hc; cat <&3; echo more >&3; ls; sleep 1.2; cat ha); ls
+rm ha && cat hb && rm -r hd && cat hb && mv hb ha && cat ha && rm ha
+""".strip().split("\n")
+
+# The same with link counts and inode numbers, by which programs see that names are of one file.
+HARD_LINKS = r"""
+echo one > ha && names ha && ln ha hb && names ha hb && find . -samefile ha | sort
+test "$(stat -c %i ha)" = "$(stat -c %i hb)" && test ha -ef hb && stat -c '%h %s' ha
+chmod 600 ha && sleep 1.2 && stat -c '%a' hb && touch -d 2001-01-01 hb && sleep 1.2 && stat -c %y ha
+ln ha hc && (exec 3<> hc; rm hc; cat <&3) && names ha hb
+ln ha hb; ln -f ha hb; echo other > hd && ln -f ha hd && cat hd && names ha hb hd
+mv ha hb; ls h?; names h?
+cp hb hd; cp -l hb he && names hb hd he && rm hb && names h?
+python3 -c "import os; os.rename('hd', 'he')"; ls h?; names h?; cat hd he
+rm -f ha hb hd he
+ln -s none hl && ln hl hm && names hl hm && readlink hm && rm hl && readlink hm && rm hm
+mkdir -p ht/s && seq 9 > ht/a && ln ht/a ht/b && ln ht/a ht/s/c && echo x > ht/s/x && chmod 640 ht/a && touch -d 1999-12-31T23:59:59.5 ht/a ht/s/x && names ht && show ht/a ht/s/x
+cp -al ht hal && names ht hal && show hal/s/x && rm -r hal && names ht
+cp -a ht hca && names hca && show hca/b && cp -r ht hcr && names hcr && cp -aT hca hcr && names hcr
+tar -cf "$ELSEWHERE/h.tar" ht && tar -tvf "$ELSEWHERE/h.tar" | grep -c 'link to' && mkdir hx && tar -xf "$ELSEWHERE/h.tar" -C hx && names hx && tar -df "$ELSEWHERE/h.tar" -C hx && show hx/ht/a
+tar -xf "$ELSEWHERE/h.tar" -C hx && names hx
+mkdir "$ELSEWHERE/hx" && tar -cf - ht | tar -xf - -C "$ELSEWHERE/hx" && (cd "$ELSEWHERE/hx" && names ht); rm -r "$ELSEWHERE/hx"
+rsync -aH ht/ hr && names hr && show hr/s/x && rsync -aHi ht/ hr && rm ht/b && echo y > ht/b && rsync -aHi ht/ hr | cut -c1-2,12- && names hr
+rsync -a --link-dest="$PWD/ht" ht/ hs && names ht hs
+mv ht "$ELSEWHERE/ht" && (cd "$ELSEWHERE" && names ht) && mv "$ELSEWHERE/ht" ht && names ht
+git init -q hg && cd hg && git branch -q -M main && git config user.name a && git config user.email a@b && seq 99 > f && mkdir d && echo e > d/e && git add . && git commit -q -m one
+git clone -q --local hg hc && names hg/.git/objects hc/.git/objects && git -C hc fsck --no-progress && git -C hc status --porcelain && rm -rf hg && git -C hc log --format=%s && git -C hc gc -q && git -C hc fsck --no-progress
+python3 -c "import os; os.mkdir('hp'); open('hp/a', 'w').write('x'); os.link('hp/a', 'hp/b'); os.replace('hp/a', 'hp/c'); print(sorted(os.listdir('hp')), os.stat('hp/b').st_ino == os.stat('hp/c').st_ino)" && names hp
+seq 5 > hn && for n in $(seq 1 40); do ln hn hp/n$n; done && names hp | tail -1 && rm -r hp && names hn
+rm -rf ht hca hcr hx hr hs hc hn && echo one > h1 && ln h1 h2 && names h1 h2
+""".strip().split("\n")
+
 # A pipe and a socket stand there already.
 PIPES = """
 ls -l pipe socket | cut -c1-10
@@ -202,15 +247,16 @@ stat -c '%F %a %t %T' pipe socket
 cat pipe & echo through > pipe; wait
 (seq 1 3 > pipe &) ; sort -r pipe
 chmod 640 pipe && stat -c %a pipe
+ln pipe pipe3 && test pipe -ef pipe3 && rm pipe3
 mv pipe pipe2 && ls pipe2 && test -p pipe2
 tar -cf - pipe2 2>&1 | tar -tvf - | cut -c1-10
 rm pipe2 socket
 """.strip().split("\n")
 
 REFUSED = """
-ln joined link
-mkfifo pipe
-touch -h -d 2020-01-01 link
+ln joined .fuse_hidden0
+mkfifo made-pipe
+ln -s joined joined-link; touch -h -d 2020-01-01 joined-link
 setfattr -n user.a -v 1 joined
 fallocate -l 100 allocated
 """.strip().split("\n")

@@ -1,4 +1,4 @@
-"""Runs the built program where one of its calls fails: what two sessions with it are answered, over lines, over pipes and over a socket."""
+"""Runs the built program where one of its calls fails: what three sessions with it are answered, over lines, over pipes and over a socket."""
 import concurrent.futures
 import os
 import shutil
@@ -19,9 +19,14 @@ MEMORY, LINK = b"mirrord: out of memory\n", b"mirrord: the link failed\n"
 
 
 def sessions(program):
-    """The sessions by their names: a request of each sort, and the one whose calls and replies fail in turn in the tests."""
+    """The sessions by their names: a request of each sort, the one whose calls and replies fail in turn in the tests, and one of links, for which `words_for` has them shown."""
     handle = first_handle(program)
-    return {"the session of each sort": each_sort(handle), "the fixed session": fixed(handle)}
+    return {"the session of each sort": each_sort(handle), "the fixed session": fixed(handle), "the session of links": links()}
+
+
+def words_for(name, words):
+    """The words of a program for the session of that name."""
+    return [*words, *["--kinds", "all"] * (name == "the session of links")]
 
 
 def first_handle(program):
@@ -76,6 +81,27 @@ def fixed(folder):
         fuse.release(12, 2, 1),
         fuse.releasedir(13, fuse.ROOT, folder),
         fuse.destroy(14),
+    ]
+
+
+def links():
+    """Of the tree in memory, where no file gets a further name, node 4 is none."""
+    return [
+        fuse.init(1),
+        fuse.symlink(2, fuse.ROOT, "l", "a"),
+        fuse.readlink(3, 2),
+        fuse.lookup(4, fuse.ROOT, "a"),
+        fuse.link(5, 3, fuse.ROOT, "b"),
+        fuse.link(6, 3, fuse.ROOT, "e"),
+        fuse.open_file(7, 4, os.O_RDWR),
+        fuse.write(8, 4, 1, 3, b"de"),
+        fuse.unlink(9, fuse.ROOT, "b"),
+        fuse.link(10, 2, fuse.ROOT, "m"),
+        fuse.read(11, 4, 1, 0, 10),
+        fuse.release(12, 4, 1),
+        fuse.unlink(13, fuse.ROOT, "l"),
+        fuse.getattr_of(14, 3),
+        fuse.destroy(15),
     ]
 
 

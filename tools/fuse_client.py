@@ -24,7 +24,7 @@ import struct
 import time
 from typing import NamedTuple
 
-LOOKUP, FORGET, GETATTR, SETATTR, READLINK, SYMLINK, MKDIR, UNLINK, RMDIR, RENAME = 1, 2, 3, 4, 5, 6, 9, 10, 11, 12
+LOOKUP, FORGET, GETATTR, SETATTR, READLINK, SYMLINK, MKDIR, UNLINK, RMDIR, RENAME, LINK = 1, 2, 3, 4, 5, 6, 9, 10, 11, 12, 13
 OPEN, READ, WRITE, STATFS, RELEASE, FSYNC, FLUSH, INIT = 14, 15, 16, 17, 18, 20, 25, 26
 OPENDIR, READDIR, RELEASEDIR, FSYNCDIR, CREATE, INTERRUPT, DESTROY = 27, 28, 29, 30, 35, 36, 38
 BATCH_FORGET, READDIRPLUS, RENAME2 = 42, 44, 45
@@ -35,7 +35,7 @@ MAJOR, MINOR = 7, 31
 LEAST_FRAME, MOST_FRAME = 40, 69632
 MOST_WRITTEN, MOST_READ = 65536, 131072
 PAGE = 4096
-PIPE, CHARACTER, FOLDER, BLOCK, FILE, LINK, SOCKET = 1, 2, 4, 6, 8, 10, 12  # kinds of names in a page
+PIPE, CHARACTER, FOLDER, BLOCK, FILE, SYMBOLIC, SOCKET = 1, 2, 4, 6, 8, 10, 12  # kinds of names in a page
 SET_MODE, SET_UID, SET_GID, SET_SIZE, SET_ATIME, SET_MTIME = (1 << bit for bit in range(6))
 SET_HANDLE, SET_ATIME_NOW, SET_MTIME_NOW = 1 << 6, 1 << 7, 1 << 8
 NOW = "now"
@@ -184,8 +184,13 @@ def mkdir(unique, parent, name, mode=0, umask=0):
 
 
 def symlink(unique, parent, name, text):
-    """A link with this text, which the server never follows."""
+    """A symbolic link with this text, which the server never follows."""
     return request(SYMLINK, unique, parent, name_bytes(name) + name_bytes(text))
+
+
+def link(unique, node, parent, name):
+    """A further name of the file that this node is; nothing may stand there."""
+    return request(LINK, unique, parent, struct.pack("<Q", node) + name_bytes(name))
 
 
 def readlink(unique, node):
@@ -319,7 +324,7 @@ def attr_of(body):
 
 
 def entry_of(body, at=0):
-    """The entry that LOOKUP, MKDIR, SYMLINK and CREATE are answered."""
+    """The entry that LOOKUP, MKDIR, SYMLINK, LINK and CREATE are answered."""
     node, generation = struct.unpack_from("<QQ", body, at)
     return Entry(node, generation, attr_at(body, at + ENTRY_OUT.size))
 
@@ -473,11 +478,15 @@ class Client:
         return entry_of(self.ask(mkdir(self.number(), parent, name, mode, umask), name))
 
     def symlink(self, parent, name, text):
-        """Where the server shows links: makes one with this text."""
+        """Where the server shows links: makes a symbolic link with this text."""
         return entry_of(self.ask(symlink(self.number(), parent, name, text), name))
 
+    def link(self, node, parent, name):
+        """Where the server shows links: gives a file, or what else is no folder, a further name. Each name has a node of its own, and with `--attributes host` both tell one `ino`."""
+        return entry_of(self.ask(link(self.number(), node, parent, name), name))
+
     def readlink(self, node):
-        """The text of a link, as bytes."""
+        """The text of a symbolic link, as bytes."""
         return self.ask(readlink(self.number(), node))
 
     def unlink(self, parent, name):

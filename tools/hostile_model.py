@@ -1,26 +1,29 @@
 """What any stream of bytes must be answered: cuts it into frames, and says of each whether a reply is due, and of what form."""
 import struct
 
-LOOKUP, FORGET, GETATTR, SETATTR, READLINK, SYMLINK, MKDIR, UNLINK, RMDIR, RENAME, OPEN, READ, WRITE, STATFS = 1, 2, 3, 4, 5, 6, 9, 10, 11, 12, 14, 15, 16, 17
+LOOKUP, FORGET, GETATTR, SETATTR, READLINK, SYMLINK, MKDIR, UNLINK, RMDIR, RENAME, LINK, OPEN, READ, WRITE, STATFS = 1, 2, 3, 4, 5, 6, 9, 10, 11, 12, 13, 14, 15, 16, 17
 RELEASE, FSYNC, FLUSH, INIT, OPENDIR, READDIR, RELEASEDIR, FSYNCDIR, CREATE, INTERRUPT = 18, 20, 25, 26, 27, 28, 29, 30, 35, 36
 DESTROY, BATCH_FORGET, READDIRPLUS, RENAME2 = 38, 42, 44, 45
-EPERM, ENOENT, EIO, EBADF, EINVAL, ENAMETOOLONG, ENOSYS, EPROTO = 1, 2, 5, 9, 22, 36, 38, 71
+EPERM, ENOENT, EIO, EBADF, EAGAIN, EEXIST, ENOTDIR, EINVAL, ENFILE, ENAMETOOLONG, ENOSYS, EPROTO, ESTALE = 1, 2, 5, 9, 11, 17, 20, 22, 23, 36, 38, 71, 116
 ERRORS = {1, 2, 5, 9, 11, 12, 13, 16, 17, 20, 21, 22, 23, 27, 28, 36, 38, 39, 71, 75, 116}
-SHORTEST, LONGEST = 40, 69632
+SHORTEST, LONGEST, ROOT = 40, 69632, 1
 SILENT = {FORGET, BATCH_FORGET, INTERRUPT}
 # bodies of one length, and bodies that end with names: what stands before them, and how many
 FIXED = {GETATTR: 16, SETATTR: 88, OPEN: 8, READ: 40, STATFS: 0, RELEASE: 24, FSYNC: 16, FLUSH: 24, OPENDIR: 8, READDIR: 40,
          RELEASEDIR: 24, FSYNCDIR: 16, DESTROY: 0, READDIRPLUS: 40}
-NAMED = {LOOKUP: (0, 1), MKDIR: (8, 1), UNLINK: (0, 1), RMDIR: (0, 1), RENAME: (8, 2), CREATE: (16, 1), RENAME2: (16, 2)}
+NAMED = {LOOKUP: (0, 1), MKDIR: (8, 1), UNLINK: (0, 1), RMDIR: (0, 1), RENAME: (8, 2), LINK: (8, 1), CREATE: (16, 1), RENAME2: (16, 2)}
+# what is answered by an entry, which the client then knows once more
+ENTRIES = (LOOKUP, SYMLINK, MKDIR, LINK, CREATE)
 # bodies of replies that tell of success, where they have one length
-ANSWERED = {LOOKUP: 128, GETATTR: 104, SETATTR: 104, SYMLINK: 128, MKDIR: 128, UNLINK: 0, RMDIR: 0, RENAME: 0, RENAME2: 0, OPEN: 16, WRITE: 8, STATFS: 80,
+ANSWERED = {LOOKUP: 128, GETATTR: 104, SETATTR: 104, SYMLINK: 128, MKDIR: 128, UNLINK: 0, RMDIR: 0, RENAME: 0, LINK: 128, RENAME2: 0, OPEN: 16, WRITE: 8, STATFS: 80,
             RELEASE: 0, FSYNC: 0, FLUSH: 0, INIT: 64, OPENDIR: 16, RELEASEDIR: 0, FSYNCDIR: 0, CREATE: 144, DESTROY: 0}
 # what is served where links are shown, and the modes and the kinds of names that come where they are not
-OF_LINKS = {READLINK, SYMLINK}
+OF_LINKS = {READLINK, SYMLINK, LINK}
 PLAIN_MODES, PLAIN_KINDS = {0o40755, 0o100644}, {4, 8}
 ALL_MODES, ALL_KINDS = {0o40755, 0o100644, 0o120777, 0o10644, 0o140644, 0o20644, 0o60644}, {1, 2, 4, 6, 8, 10, 12}
-# what else is refused than by the bytes alone
-ONLY_ERRORS = {STATFS: set(), FLUSH: {EBADF}, RELEASEDIR: {EBADF}, FSYNCDIR: {EBADF}}
+# what else is refused than by the bytes alone; a LINK of a folder is EPERM, as the system has it
+ONLY_ERRORS = {STATFS: set(), FLUSH: {EBADF}, RELEASEDIR: {EBADF}, FSYNCDIR: {EBADF},
+               LINK: {EPERM, ENOENT, EAGAIN, EEXIST, ENOTDIR, ENFILE, ENAMETOOLONG, ESTALE}}
 
 
 def fault_of_name(name):
@@ -53,12 +56,14 @@ def fault_of_names(opcode, body):
             return fault_of_name(name)
     if any(name.startswith(b".fuse_hidden") for name in names):
         return ENOENT if opcode == LOOKUP else EPERM
+    if opcode == LINK and struct.unpack_from("<Q", body)[0] == ROOT:
+        return EPERM
     if opcode == RENAME2 and struct.unpack_from("<I", body, 8)[0] > 2:
         return EINVAL
     return EINVAL if opcode == CREATE and body[0] & 3 == 3 else 0
 
 
-def fault_of_link(body):
+def fault_of_symlink(body):
     """The error of a SYMLINK: a name, and the link's text, each with its zero byte."""
     if not body.endswith(b"\0") or body.count(b"\0") != 2:
         return EINVAL
@@ -72,8 +77,10 @@ def fault_of_link(body):
 
 def fault_of(opcode, body, links=False):
     """The error that the bytes of a request have by themselves, or 0; an INIT's and a silent one's are told elsewhere."""
-    if opcode in OF_LINKS:
-        return ENOSYS if not links else fault_of_link(body) if opcode == SYMLINK else 0
+    if opcode in OF_LINKS and not links:
+        return ENOSYS
+    if opcode in (SYMLINK, READLINK):
+        return fault_of_symlink(body) if opcode == SYMLINK else 0
     if opcode in NAMED:
         return fault_of_names(opcode, body)
     if opcode == WRITE:
@@ -112,10 +119,12 @@ class Due:
             return f"a body of {len(body)} bytes"
         if self.opcode == WRITE and (struct.unpack("<I", body[:4])[0] > len(self.body) - 40 or any(body[4:])):
             return "more written than was sent"
-        if self.opcode in (LOOKUP, SYMLINK, MKDIR, CREATE) and struct.unpack_from("<Q", body)[0] < 2:
+        if self.opcode in ENTRIES and struct.unpack_from("<Q", body)[0] < 2:
             return "an entry without a node"
-        at = {LOOKUP: 40, SYMLINK: 40, MKDIR: 40, CREATE: 40, GETATTR: 16, SETATTR: 16}.get(self.opcode)
+        at = 40 if self.opcode in ENTRIES else 16 if self.opcode in (GETATTR, SETATTR) else None
         mode = struct.unpack_from("<I", body, at + 60)[0] if at else None
+        if self.opcode == LINK and mode == 0o40755:
+            return "a folder with a further name"
         return f"a mode of {mode:o}" if mode is not None and mode not in (ALL_MODES if self.links else PLAIN_MODES) else None
 
     def wrong_bytes(self, body):

@@ -12,7 +12,7 @@ use Rattle.backing.specs.declared.call.Answer.{Answer}
 use Rattle.backing.specs.declared.call.Answer.TheVariants.{Done, Stat, Names as NamesAre, Bytes, Wrote, Fault}
 use Rattle.backing.specs.declared.entries.Item.{Item}
 use Rattle.backing.specs.declared.entries.Item.TheVariants.{Folder, File, Link}
-use Rattle.errno.specs.declared.TheConstants.{ENOENT, EBUSY, EEXIST, ENOTDIR, EISDIR, EINVAL, EFBIG, ENOTEMPTY}
+use Rattle.errno.specs.declared.TheConstants.{EPERM, ENOENT, EBUSY, EEXIST, ENOTDIR, EISDIR, EINVAL, EFBIG, ENOTEMPTY}
 use Rattle.backing.specs.declared.call.TheConstants.{MAX_FILE_LEN}
 use Rattle.backing.specs.Files.{resized, written, read}
 use Rattle.backing.specs.Tree.{Tree, IsFile, IsFolder, IsLink, IsNeither, IsNoLink, IsOther, Resolves, Stops, HasNames, IsBare, is_path, with_item, without, moved, exchanged, kind_of, size_of}
@@ -29,6 +29,7 @@ pub data Asked : Type 0 where
   AskRename : (s t : Names) → Asked
   AskRenameNew : (s t : Names) → Asked
   AskExchange : (s t : Names) → Asked
+  AskLink : (s t : Names) → Asked
   AskRead : (p : Names) → (offset size : ℕ) → Asked
   AskReadLink : (p : Names) → Asked
   AskWrite : (p : Names) → (offset : ℕ) → (piece : List ℕ) → Asked
@@ -49,6 +50,7 @@ asked (calls.RemoveDir p) = AskRemoveDir p.now
 asked (calls.Rename s t) = AskRename s.now t.now
 asked (calls.RenameNew s t) = AskRenameNew s.now t.now
 asked (calls.Exchange s t) = AskExchange s.now t.now
+asked (calls.Link s t) = AskLink s.now t.now
 asked (calls.Read p offset size) = AskRead p.now offset size
 asked (calls.ReadLink p) = AskReadLink p.now
 asked (calls.Write p offset piece) = AskWrite p.now offset piece.now
@@ -75,6 +77,7 @@ pub data Test : Type 0 where
   NoOtherOnFolder : (s t : Names) → Test  -- only a folder replaces a folder, else EISDIR
   NoFolderOnOther : (s t : Names) → Test  -- a folder replaces nothing but a folder, else ENOTDIR
   Fits : (limit : Option ℕ) (end : ℕ) → Test  -- a file may end there, else EFBIG
+  OneName : Test  -- what stands in a tree of paths has one name: this never passes, and gives EPERM, as a file system without hard links does (link(2))
 
 -- How long a file may be, in a tree in memory. A directory that has no limit of its own has none here, and its device fails.
 abbrev pub memory_limit : Option ℕ
@@ -106,6 +109,7 @@ Passes at (NotOver s t) = is_prefix t s ≡ false
 Passes at (NoOtherOnFolder s t) = IsOther (at s) → IsFolder (at t) → ⊥
 Passes at (NoFolderOnOther s t) = IsFolder (at s) → IsOther (at t) → ⊥
 Passes at (Fits limit end) = IsWithin limit end
+Passes at OneName = ⊥
 
 abbrev pub Fails : Tree → Test → ℤ → Type 0
 Fails at (BelowRoot p) errno = (p ≡ []) × (errno ≡ EBUSY)
@@ -123,6 +127,7 @@ Fails at (NotOver s t) errno = (is_prefix t s ≡ true) × (errno ≡ ENOTEMPTY)
 Fails at (NoOtherOnFolder s t) errno = IsOther (at s) × IsFolder (at t) × (errno ≡ EISDIR)
 Fails at (NoFolderOnOther s t) errno = IsFolder (at s) × IsOther (at t) × (errno ≡ ENOTDIR)
 Fails at (Fits limit end) errno = IsBeyond limit end × (errno ≡ EFBIG)
+Fails at OneName errno = errno ≡ EPERM
 
 -- all of the tests pass
 abbrev pub PassesAll : Tree → List Test → Type 0
@@ -156,6 +161,7 @@ tests_of limit (AskRemoveDir p) = BelowRoot p ∷ Reached p ∷ Present p ∷ Fo
 tests_of limit (AskRename s t) = BelowRoot s ∷ BelowRoot t ∷ Reached s ∷ Present s ∷ unless (is_path s t) (NotInto s t ∷ NotOver s t ∷ Reached t ∷ NoOtherOnFolder s t ∷ NoFolderOnOther s t ∷ Bare t ∷ [])
 tests_of limit (AskRenameNew s t) = BelowRoot s ∷ BelowRoot t ∷ Reached s ∷ Present s ∷ Differs s t ∷ NotInto s t ∷ NotOver s t ∷ Reached t ∷ Free t ∷ []
 tests_of limit (AskExchange s t) = BelowRoot s ∷ BelowRoot t ∷ Reached s ∷ Present s ∷ unless (is_path s t) (NotInto s t ∷ NotInto t s ∷ Reached t ∷ Present t ∷ [])
+tests_of limit (AskLink s t) = BelowRoot s ∷ BelowRoot t ∷ Reached s ∷ Present s ∷ Reached t ∷ Free t ∷ OneName ∷ []
 tests_of limit (AskRead p offset size) = Reached p ∷ Present p ∷ FileAt p ∷ []
 tests_of limit (AskReadLink p) = Reached p ∷ Present p ∷ LinkAt p ∷ []
 tests_of limit (AskWrite p offset piece) = Reached p ∷ Present p ∷ FileAt p ∷ Fits limit (end_of offset piece) ∷ []
@@ -193,6 +199,7 @@ Does old (AskRemoveDir p) answer new = (answer ≡ Done) × (new ≡ without old
 Does old (AskRename s t) answer new = (answer ≡ Done) × (new ≡ (if is_path s t then old else moved old s t))
 Does old (AskRenameNew s t) answer new = (answer ≡ Done) × (new ≡ moved old s t)
 Does old (AskExchange s t) answer new = (answer ≡ Done) × (new ≡ (if is_path s t then old else exchanged old s t))
+Does old (AskLink s t) answer new = ⊥
 Does old (AskRead p offset size) answer new = ((bytes : List ℕ) × (old p ≡ Some (File bytes)) × (answer ≡ Bytes (read bytes offset size))) × (new ≡ old)
 Does old (AskReadLink p) answer new = ((text : List ℕ) × (old p ≡ Some (Link text)) × (answer ≡ Bytes text)) × (new ≡ old)
 Does old (AskWrite p offset []) answer new = (answer ≡ Wrote 0) × (new ≡ old)
@@ -220,6 +227,7 @@ TakesMemory (AskRemoveDir p) = ⊥
 TakesMemory (AskRename s t) = Unit {0}
 TakesMemory (AskRenameNew s t) = Unit {0}
 TakesMemory (AskExchange s t) = Unit {0}
+TakesMemory (AskLink s t) = ⊥
 TakesMemory (AskRead p offset size) = Unit {0}
 TakesMemory (AskReadLink p) = Unit {0}
 TakesMemory (AskWrite p offset piece) = Unit {0}

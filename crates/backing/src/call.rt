@@ -105,6 +105,11 @@ pub enum Call<'a> {
         first: &'a Path,
         second: &'a Path,
     },
+    /// Gives what is at a path a further name, at a path with nothing at it. A link is not followed.
+    Link {
+        from: &'a Path,
+        to: &'a Path,
+    },
     /// Reads at most `size` bytes of the file, from byte `offset` on.
     Read {
         path: &'a Path,

@@ -8,6 +8,7 @@ mod checks;
 mod details;
 mod entries;
 mod exchanging;
+mod linking;
 mod lookups;
 mod making;
 mod memory;

@@ -11,6 +11,7 @@ use crate::call::{Answer, Call};
 use crate::details::set_details;
 use crate::entries::{Item, TreeEntry};
 use crate::exchanging::exchange;
+use crate::linking::link;
 use crate::making::{make, make_dir, make_link, put};
 use crate::moving::{rename, rename_new};
 use crate::plans::PlannedFault;
@@ -45,6 +46,7 @@ pub fn perform(
         Call::Rename { from, to } => rename(alloc, entries, from, to),
         Call::RenameNew { from, to } => rename_new(alloc, entries, from, to),
         Call::Exchange { first, second } => exchange(alloc, entries, first, second),
+        Call::Link { from, to } => link(entries, from, to),
         Call::Read { path, offset, size } => read(alloc, entries, path, offset, size),
         Call::ReadLink(path) => read_link(alloc, entries, path),
         Call::Write { path, offset, data } => write(entries, path, offset, data),

@@ -198,3 +198,10 @@ Renames at old s t (Err NotFolder) at' new = IsFolderItem (at s) × IsOther (at 
 Renames at old s t (Err NotEmpty) at' new = IsFolderItem (at s) × IsFolderItem (at t) × HasNames at t × Stays at old at' new
 Renames at old s t (Err (Failed errno)) at' new = Stays at old at' new ⊎ Moves at old s t at' new
 Renames at old s t (Err error) at' new = Stays at old at' new
+
+-- A further name for what stands at s. In a tree of paths nothing has two names, so this is never done.
+abbrev pub Links : {H : Type 0} → Tree → (H → Names → Type 0) → Names → Names → Result (Unit {0}) DiskError → Tree → (H → Names → Type 0) → Type 0
+Links at old s t (Ok done) at' new = ⊥
+Links at old s t (Err Absent) at' new = (at s ≡ None) × Stays at old at' new
+Links at old s t (Err Exists) at' new = IsSome (at s) × IsSome (at t) × Stays at old at' new
+Links at old s t (Err error) at' new = Stays at old at' new

@@ -14,6 +14,7 @@ use Rattle.disk.specs.declared.spot.MemoryHandle.{MemoryHandle}
 use Rattle.disk.specs.declared.error.DiskError.{DiskError}
 use Rattle.disk.specs.declared.error.DiskError.TheVariants.{Absent, Exists, NotFolder, IsFolder, NotEmpty, Failed}
 use Rattle.disk.specs.Reached.{reached}
+use Rattle.errno.specs.declared.TheConstants.{EPERM}
 use Rattle.disk.specs.Answers.{new_path}
 
 abbrev pub item_of : Content → Item
@@ -109,6 +110,15 @@ CannotMove at s t NotFolder = IsFolderItem (at s) × IsOther (at t)
 CannotMove at s t NotEmpty = IsFolderItem (at s) × IsFolderItem (at t) × HasNames at t
 CannotMove at s t Exists = ⊥
 CannotMove at s t (Failed errno) = ⊥
+
+-- why what stands at s gets no further name t
+abbrev pub CannotLink : Tree → Names → Names → DiskError → Type 0
+CannotLink at s t Absent = at s ≡ None
+CannotLink at s t Exists = IsSome (at s) × IsSome (at t)
+CannotLink at s t (Failed errno) = IsSome (at s) × (at t ≡ None) × (errno ≡ EPERM)
+CannotLink at s t NotFolder = ⊥
+CannotLink at s t IsFolder = ⊥
+CannotLink at s t NotEmpty = ⊥
 
 -- an error that says nothing
 abbrev pub IsFailure : DiskError → Type 0

@@ -16,7 +16,7 @@ use std::alloc::Global;
 pub trait Disk {
     ghost use Rattle.backing.specs.Tree.{Tree, IsTree};
     ghost use Rattle.disk.specs.declared.stat.Change.{Change};
-    ghost use Rattle.disk.specs.Answers.{Inspects, Looks, OpensDir, OpensFile, StandsAsFile, Reads, ReadsLink, ListsNames, Makes, MakesDir, MakesLink, Removes, RemovesDir, Renames, Writes, Cuts, AreApart};
+    ghost use Rattle.disk.specs.Answers.{Inspects, Looks, OpensDir, OpensFile, StandsAsFile, Reads, ReadsLink, ListsNames, Makes, MakesDir, MakesLink, Removes, RemovesDir, Renames, Links, Writes, Cuts, AreApart};
 
     /// A file or folder that is open for as long as the value is there. No value ever comes back.
     type Handle: Drop;
@@ -192,6 +192,19 @@ pub trait Disk {
         requires from { IsLawfulName from.now }
         requires to { IsLawfulName to.now }
         ensures { (up up' : Names) → stands self.old from_dir.now up → stands self.old to_dir.now up' → AreApart (up ++ from.now ∷ []) (up' ++ to.now ∷ []) → Renames (tree self.old) (stands self.old) (up ++ from.now ∷ []) (up' ++ to.now ∷ []) result (tree self.new) (stands self.new) };
+
+    /// Gives what stands at the one name a further one, at which nothing stands: `linkat`. A link at the name is not followed, and has
+    /// two names then itself.
+    fn link(
+        &mut self,
+        from_dir: &Self::Handle,
+        from: &Name,
+        to_dir: &Self::Handle,
+        to: &Name,
+    ) -> Result<(), DiskError>
+        requires from { IsLawfulName from.now }
+        requires to { IsLawfulName to.now }
+        ensures { (up up' : Names) → stands self.old from_dir.now up → stands self.old to_dir.now up' → Links (tree self.old) (stands self.old) (up ++ from.now ∷ []) (up' ++ to.now ∷ []) result (tree self.new) (stands self.new) };
 
     /// What stands below the folder is a tree.
     ghost is_tree: { (disk : Self) → IsTree (tree disk) };

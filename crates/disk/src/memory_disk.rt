@@ -288,6 +288,28 @@ impl Disk for MemoryDisk {
             Err(error) => Err(error),
         }
     }
+
+    /// What stands in a tree of paths has one name: EPERM, as in a file system without hard links.
+    fn link(
+        &mut self,
+        from_dir: &MemoryHandle,
+        from: &Name,
+        to_dir: &MemoryHandle,
+        to: &Name,
+    ) -> Result<(), DiskError> {
+        match self.schedule.pass() {
+            Ok(()) => {}
+            Err(error) => return Err(error),
+        }
+        let source = match self.standing.path_to(self.alloc, from_dir.number, from) {
+            Ok(path) => path,
+            Err(error) => return Err(error),
+        };
+        match self.standing.path_to(self.alloc, to_dir.number, to) {
+            Ok(target) => Err(self.standing.why_no_link(&source, &target)),
+            Err(error) => Err(error),
+        }
+    }
 }
 
 impl HonestDisk for MemoryDisk {

@@ -12,7 +12,7 @@ use crate::placing::{make, remove_dir, remove_file};
 use crate::reading::read;
 use crate::spot::{Content, Spot};
 use crate::writing::{set_len, write};
-use errno::{EBADF, EBUSY, ENOENT, ENOMEM, ENOSPC, ENOTDIR};
+use errno::{EBADF, EBUSY, ENOENT, ENOMEM, ENOSPC, ENOTDIR, EPERM};
 use paths::{Name, Path};
 use std::alloc::{AllocError, Global};
 use std::marker::Model;
@@ -43,7 +43,7 @@ impl Model for Standing {
 impl Standing {
     ghost use Rattle.disk.specs.Alone.{root_alone};
     ghost use Rattle.disk.specs.Answers.{Cuts, ListsNames, MakesItem, MakesNone, Reads, Removes, RemovesDir, Renames, AreApart, Writes};
-    ghost use Rattle.disk.specs.Spots.{IsFailure, IsSpot, item_of, path_of, stands_in, tree_of};
+    ghost use Rattle.disk.specs.Spots.{CannotLink, IsFailure, IsSpot, item_of, path_of, stands_in, tree_of};
 
     /// The root alone.
     pub fn new(alloc: Global) -> Result<Standing, AllocError>
@@ -190,6 +190,20 @@ impl Standing {
         ensures { AreApart from.now to.now → Renames (tree_of self.old) (stands_in self.old) from.now to.now result (tree_of self.new) (stands_in self.new) }
     {
         rename(alloc, &mut self.list, from, to)
+    }
+
+    /// Why what stands at the one path gets no further name at the other one: what is wrong there, or else EPERM.
+    pub fn why_no_link(&self, from: &Path, to: &Path) -> DiskError
+        ensures { CannotLink (tree_of self.now) from.now to.now result }
+    {
+        match self.at(from) {
+            None => return DiskError::Absent,
+            Some(_) => {}
+        }
+        match self.at(to) {
+            Some(_) => DiskError::Exists,
+            None => DiskError::Failed(EPERM),
+        }
     }
 
     /// Reads so many bytes at most, or one where that is none.

@@ -117,4 +117,14 @@ pub trait System {
     ) -> Result<(), DiskError>
         requires from { IsLawfulName from.now }
         requires to { IsLawfulName to.now };
+
+    fn link(
+        &mut self,
+        from_dir: &Self::Handle,
+        from: &Name,
+        to_dir: &Self::Handle,
+        to: &Name,
+    ) -> Result<(), DiskError>
+        requires from { IsLawfulName from.now }
+        requires to { IsLawfulName to.now };
 }

@@ -205,4 +205,14 @@ impl<S: System + Drop> Disk for Unknown<S> {
     ) -> Result<(), DiskError> {
         self.system.rename(from_dir, from, to_dir, to)
     }
+
+    fn link(
+        &mut self,
+        from_dir: &Self::Handle,
+        from: &Name,
+        to_dir: &Self::Handle,
+        to: &Name,
+    ) -> Result<(), DiskError> {
+        self.system.link(from_dir, from, to_dir, to)
+    }
 }

@@ -15,5 +15,7 @@ pub mod NewEnds
 pub mod UnseenEnds
 pub mod Witnesses
 pub mod MoveWitnesses
+pub mod NameEnds
+pub mod NameWitnesses
 pub mod CallEnds
 pub mod AttributeEnds

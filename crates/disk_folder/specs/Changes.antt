@@ -20,6 +20,12 @@ abbrev pub IsWhyNotMade : DiskError → Trouble → Type 0
 IsWhyNotMade Exists trouble = IsTaken trouble
 IsWhyNotMade error trouble = IsFailure trouble
 
+-- why what stands somewhere got no further name, by the system's error
+abbrev pub IsWhyNotLinked : DiskError → Trouble → Type 0
+IsWhyNotLinked Absent trouble = trouble ≡ Refused Nothing
+IsWhyNotLinked Exists trouble = IsTaken trouble
+IsWhyNotLinked error trouble = IsFailure trouble
+
 -- why nothing was removed that is no folder, by the system's error
 abbrev pub IsWhyNotRemoved : DiskError → Trouble → Type 0
 IsWhyNotRemoved Absent trouble = trouble ≡ Refused Nothing

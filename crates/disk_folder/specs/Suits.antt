@@ -6,7 +6,7 @@ use Rattle.backing.specs.declared.call.Child.{Child}
 use Rattle.payload.specs.declared.attributes.Details.{Details}
 use Rattle.payload.specs.declared.attributes.Kind.{Kind}
 use Rattle.payload.specs.declared.attributes.Kind.TheVariants as kinds
-use Rattle.backing.specs.Calls.{Asked, AskStat, AskList, AskMake, AskMakeDir, AskMakeLink, AskRemove, AskRemoveDir, AskRename, AskRenameNew, AskExchange, AskRead, AskReadLink, AskWrite, AskSetLen, AskSync, AskSetPermissions, AskSetOwner, AskSetTimes}
+use Rattle.backing.specs.Calls.{Asked, AskStat, AskList, AskMake, AskMakeDir, AskMakeLink, AskRemove, AskRemoveDir, AskRename, AskRenameNew, AskExchange, AskLink, AskRead, AskReadLink, AskWrite, AskSetLen, AskSync, AskSetPermissions, AskSetOwner, AskSetTimes}
 
 -- the kind of answer, and how many bytes
 abbrev pub Suits : Asked → Answer → Type 0
@@ -20,6 +20,7 @@ Suits (AskRemoveDir p) answer = answer ≡ Done
 Suits (AskRename s t) answer = answer ≡ Done
 Suits (AskRenameNew s t) answer = answer ≡ Done
 Suits (AskExchange s t) answer = ⊥
+Suits (AskLink s t) answer = answer ≡ Done
 Suits (AskRead p offset size) answer = (bytes : List ℕ) × (answer ≡ Bytes bytes) × (length bytes ≤ size)
 Suits (AskReadLink p) answer = (text : List ℕ) × (answer ≡ Bytes text) × (length text < 4096)
 Suits (AskWrite p offset piece) answer = answer ≡ Wrote (length piece)

@@ -17,6 +17,7 @@ ghost use Rattle.disk_folder.specs.Suits.{Suits};
 use crate::attributes::{set, sync};
 use crate::explained::is_explained;
 use crate::files::{read, set_len, write};
+use crate::linking::link;
 use crate::links::{make_link, read_link};
 use crate::listed::Listed;
 use crate::listing::list;
@@ -49,7 +50,7 @@ fn names_of(call: Call<'_>) -> usize {
         | Call::SetPermissions { path, .. }
         | Call::SetOwner { path, .. }
         | Call::SetTimes { path, .. } => path.len(),
-        Call::Rename { from, to } | Call::RenameNew { from, to } => {
+        Call::Rename { from, to } | Call::RenameNew { from, to } | Call::Link { from, to } => {
             from.len().saturating_add(to.len())
         }
         Call::Exchange { .. } => 0,
@@ -131,6 +132,7 @@ fn perform_change<D: Disk>(
         Call::RemoveDir(path) => remove_dir(disk, cache, path),
         Call::Rename { from, to } => rename(disk, cache, from, to),
         Call::RenameNew { from, to } => rename_new(disk, cache, from, to),
+        Call::Link { from, to } => link(disk, cache, from, to),
         Call::Write { path, offset, data } => write(disk, cache, path, offset, data),
         Call::SetLen { path, size } => set_len(disk, cache, path, size),
         Call::SetPermissions { path, permissions } => {

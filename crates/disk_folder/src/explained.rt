@@ -2,7 +2,7 @@
 
 ghost use Rattle.std.specs.Prelude.{true, false, ◌≡◌, ◌≢◌, List, ◌∷◌, ◌++◌, []};
 ghost use Rattle.paths.specs.Prefixes.{is_prefix};
-ghost use Rattle.backing.specs.Calls.{Test, asked, Reached, Present, Free, FileAt, LinkAt, FolderAt, NoFolder, AskRename, AskRenameNew, AskRemoveDir};
+ghost use Rattle.backing.specs.Calls.{Test, asked, Reached, Present, Free, FileAt, LinkAt, FolderAt, NoFolder, AskRename, AskRenameNew, AskLink, AskRemoveDir};
 ghost use Rattle.backing.specs.Checks.{source_tests};
 ghost use Rattle.disk_folder.specs.Explained.{Explained, Explains};
 ghost use Rattle.disk_folder.specs.Troubles.{reason_errno};
@@ -26,6 +26,7 @@ pub fn is_explained(call: Call<'_>, reason: Reason) -> bool
         Call::Rename { from, to } => is_no_move(from, to, reason),
         Call::RenameNew { from, to } => is_no_new_move(from, to, reason),
         Call::Exchange { .. } => false,
+        Call::Link { from, to } => is_no_free_target(from, to, reason),
         Call::Read { path, .. } => is_no_file(path, reason),
         Call::ReadLink(path) => is_no_link(path, reason),
         Call::Write { path, .. } => is_no_file(path, reason),
@@ -183,6 +184,30 @@ fn is_no_new_move(from: &Path, to: &Path, reason: Reason) -> bool
                 return are_apart(from, to);
             }
             false
+        }
+        _ => false,
+    }
+}
+
+/// Nothing at it gets a further name there: it is no source, or something stands there, or no folder above it.
+fn is_no_free_target(from: &Path, to: &Path, reason: Reason) -> bool
+    ensures { result ≡ true → Explains (AskLink from.now to.now) (reason_errno reason) }
+{
+    if is_no_source(from, to, reason) {
+        return true;
+    }
+    match reason {
+        Reason::Taken => {
+            if from.len() == 0 {
+                return false;
+            }
+            to.len() > 0
+        }
+        Reason::NoFolder => {
+            if from.len() == 0 {
+                return false;
+            }
+            to.len() > 1
         }
         _ => false,
     }

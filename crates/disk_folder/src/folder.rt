@@ -35,7 +35,8 @@ const WORTH_KEEPING: usize = 1024;
 /// What a list has looked at is told again to the calls that follow it, for a tenth of a second and as long as nothing is changed.
 ///
 /// Two paths are not exchanged: that fails with EINVAL, whatever stands there. A move that is to replace nothing looks at its target
-/// first: what somebody else makes there between that look and the move is replaced.
+/// first: what somebody else makes there between that look and the move is replaced. A further name is given as the disk gives it, and
+/// why it gives none is told as it says: a disk in memory, of which nothing has two names, fails with EPERM.
 #[derive(Drop)]
 pub struct Folder<D: Disk + Drop> {
     disk: D,

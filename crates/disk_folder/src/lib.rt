@@ -9,6 +9,7 @@ mod files;
 mod finding;
 mod folder;
 mod following;
+mod linking;
 mod links;
 mod listed;
 mod listing;

@@ -17,7 +17,7 @@ use Rattle.wire.specs.declared.request.Operation.TheVariants as ops
 use Rattle.wire.specs.declared.request.Request.{Request}
 use Rattle.terms.specs.declared.settings.AttributeSource.{AttributeSource}
 use Rattle.terms.specs.declared.settings.Settings.{Settings}
-use Rattle.ops.specs.Intents.{Intent, access_of, by_handle, create_intent, has_handle, intended, intent, is_unserved, link_intent, names_of, needed_to_set, open_intent, refused, rename_intent, reserved_errno, set_intent, sets_other}
+use Rattle.ops.specs.Intents.{Intent, access_of, by_handle, create_intent, hard_link_intent, has_handle, intended, intent, is_unserved, link_intent, names_of, needed_to_set, open_intent, refused, rename_intent, reserved_errno, set_intent, sets_other}
 use Rattle.ops.specs.Intents as intents
 use Rattle.ops.specs.Pages.{page_want}
 
@@ -61,6 +61,9 @@ link_plain parent name text plain =
     let link : Intent = intents.Begin (wants.Name parent name) in
     either (length text == 0) (refused ENOENT) (if nat_le 4096 (length text) then refused ENAMETOOLONG else link) tt (either (nat_le 4096 (length text)) (refused ENAMETOOLONG) link tt plain)
 
+hard_link_plain : (number parent : ℕ) (name : Name) → ArePlain (name ∷ []) → IsPlainIntent (hard_link_intent number parent name)
+hard_link_plain number parent name plain = either (number == 1) (refused EPERM) (intents.Begin (wants.Link number parent name)) tt plain
+
 rename_plain : (parent : ℕ) (name : Name) (new_parent flags : ℕ) (new_name : Name) → ArePlain (name ∷ new_name ∷ []) → IsPlainIntent (rename_intent parent name new_parent flags new_name)
 rename_plain parent name new_parent flags new_name plain =
     let move : Intent = intents.Begin (wants.Move parent name new_parent new_name false) in
@@ -76,6 +79,7 @@ intended_plain s node ops.GetAttr plain = no_names
 intended_plain s node (ops.SetAttr valid fh size attributes) plain = set_plain s.attributes node valid fh
 intended_plain s node ops.ReadLink plain = no_names
 intended_plain s node (ops.MakeLink name text) plain = link_plain node name.now text.now plain
+intended_plain s node (ops.Link old_node name) plain = hard_link_plain old_node node name.now plain
 intended_plain s node (ops.MakeDir name mode umask) plain = plain
 intended_plain s node (ops.Unlink name) plain = plain
 intended_plain s node (ops.RemoveDir name) plain = plain

@@ -7,7 +7,7 @@ use Rattle.wire.specs.Faults.{IsFirstFault}
 use Rattle.wire.specs.Requests.{IsFramed, opcode_in, opcode_of, unique_in}
 use Rattle.wire.specs.declared.fault.WireFault.{WireFault}
 use Rattle.wire.specs.declared.fault.WireFault.TheVariants as faults
-use Rattle.wire.specs.declared.opcode.TheConstants.{READLINK, SYMLINK}
+use Rattle.wire.specs.declared.opcode.TheConstants.{LINK, READLINK, SYMLINK}
 use Rattle.wire.specs.declared.reply.ReplyBody.TheVariants.{Failed}
 use Rattle.wire.specs.declared.request.Request.{Request}
 use Rattle.ops.specs.Intents.{Intent, hides_links, intent, is_unserved, refusal_errno, refused}
@@ -15,17 +15,19 @@ use Rattle.engine.specs.Classes.{is_unanswered}
 use Rattle.engine.specs.Reference.{Answers, Asks, Faults, Serves, Turn}
 use Rattle.engine.specs.Tables.{Table}
 
--- one of two
-either_is : (a b h : Bool) → ((a || b) && h) ≡ true → (a ≡ true) ⊎ (b ≡ true)
-either_is true b h is = inl refl
-either_is false true h is = inr refl
-either_is false false h is = absurd (true≢false (sym is))
+-- one of three
+either_is : (a b c h : Bool) → ((a || b || c) && h) ≡ true → (a ≡ true) ⊎ (b ≡ true) ⊎ (c ≡ true)
+either_is true b c h is = inl refl
+either_is false true c h is = inr (inl refl)
+either_is false false true h is = inr (inr refl)
+either_is false false false h is = absurd (true≢false (sym is))
 
 -- such an opcode gets a reply
 unserved_answered : (s : Settings) (opcode : ℕ) → is_unserved s opcode ≡ true → is_unanswered opcode ≡ false
-unserved_answered s opcode unserved = elim (either_is (opcode == READLINK) (opcode == SYMLINK) (hides_links s.kinds) unserved) [
+unserved_answered s opcode unserved = elim (either_is (opcode == READLINK) (opcode == SYMLINK) (opcode == LINK) (hides_links s.kinds) unserved) [
   | inl reads ↦ subst (λ (o : ℕ). is_unanswered o ≡ false) (sym (eqb-true opcode READLINK reads)) refl
-  | inr makes ↦ subst (λ (o : ℕ). is_unanswered o ≡ false) (sym (eqb-true opcode SYMLINK makes)) refl
+  | inr (inl makes) ↦ subst (λ (o : ℕ). is_unanswered o ≡ false) (sym (eqb-true opcode SYMLINK makes)) refl
+  | inr (inr links) ↦ subst (λ (o : ℕ). is_unanswered o ≡ false) (sym (eqb-true opcode LINK links)) refl
 ]
 
 -- a whole frame of it with a fault

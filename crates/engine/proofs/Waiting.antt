@@ -28,6 +28,7 @@ kept_names (wanted.Name parent name) h = tt
 kept_names (wanted.Remove parent name may_hide) h = tt
 kept_names (wanted.Move parent name new_parent new_name keep) h = tt
 kept_names (wanted.Exchange parent name new_parent new_name) h = tt
+kept_names (wanted.Link number parent name) h = tt
 kept_names (wanted.Create parent name access) h = tt
 
 module _ {W L C D : Type 0} (rules : Rules W L) (does : Behaviour C D) where

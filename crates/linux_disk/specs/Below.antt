@@ -2,7 +2,7 @@
 use Rattle.std.specs.Prelude.{◌≡◌, ◌<◌, ◌++◌, ℕ, List, Option, None, Some, codes, length}
 use Rattle.payload.specs.declared.attributes.Kind.TheVariants.{Folder}
 use Rattle.disk.specs.declared.stat.Stat.{Stat}
-use Rattle.linux_disk.specs.Calls.{Done, Looked, LookedAt, Inspected, OpenedAgain, OpenedDir, OpenedDirAt, MadeFile, MadeDir, ReadLink, MadeLink, RemovedFile, RemovedFileAt, RemovedDir, RemovedDirAt, Renamed}
+use Rattle.linux_disk.specs.Calls.{Done, Looked, LookedAt, Inspected, OpenedAgain, OpenedDir, OpenedDirAt, MadeFile, MadeDir, ReadLink, MadeLink, RemovedFile, RemovedFileAt, RemovedDir, RemovedDirAt, Renamed, Linked}
 use Rattle.linux_disk.specs.Places.{way_to}
 use Rattle.linux_disk.specs.Ways.{way_in}
 
@@ -115,3 +115,11 @@ pub record WasRenamed (did : Done → Type 0) (From To : List ℕ → Type 0) : 
   pub old_reaches : From old
   pub new_reaches : To new
   pub done : did (Renamed old new)
+
+-- what the one text reaches got the name that the other reaches as well
+pub record WasLinked (did : Done → Type 0) (From To : List ℕ → Type 0) : Type 0 where
+  pub old : List ℕ
+  pub new : List ℕ
+  pub old_reaches : From old
+  pub new_reaches : To new
+  pub done : did (Linked old new)

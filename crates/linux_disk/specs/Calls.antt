@@ -28,3 +28,4 @@ pub data Done : Type 0 where
   RemovedDir : (dir : ℕ) → (name : List ℕ) → Done
   RemovedDirAt : (text : List ℕ) → Done
   Renamed : (old : List ℕ) → (new : List ℕ) → Done
+  Linked : (old : List ℕ) → (new : List ℕ) → Done

@@ -2,7 +2,7 @@
 
 ghost use Rattle.std.specs.Prelude.{ℕ, List, [], ◌≡◌, ◌<◌, ◌≤◌, ◌^◌, ◌++◌, IsTrue, IfOk, OnOk, codes, length, take};
 ghost use Rattle.disk.specs.Names.{IsLawfulName, IsLinkText};
-ghost use Rattle.linux_disk.specs.Calls.{Done, Looked, LookedAt, Inspected, OpenedAgain, OpenedDir, OpenedDirAt, OpenedFile, Read, Wrote, SetLen, Synced, Set, SetAt, MadeFile, MadeDir, ReadLink, MadeLink, RemovedFile, RemovedFileAt, RemovedDir, RemovedDirAt, Renamed};
+ghost use Rattle.linux_disk.specs.Calls.{Done, Looked, LookedAt, Inspected, OpenedAgain, OpenedDir, OpenedDirAt, OpenedFile, Read, Wrote, SetLen, Synced, Set, SetAt, MadeFile, MadeDir, ReadLink, MadeLink, RemovedFile, RemovedFileAt, RemovedDir, RemovedDirAt, Renamed, Linked};
 ghost use Rattle.terms.specs.declared.settings.Kinds.{Kinds as Shown};
 ghost use Rattle.linux_disk.specs.Places.{IsBelow, IsReached, IsSafe, way_to};
 
@@ -192,6 +192,19 @@ pub trait SystemCalls {
         requires from { IsReached guards (number from_dir.now) from.now }
         requires to { IsReached guards (number to_dir.now) to.now }
         ensures { OnOk result (did (Renamed from.now to.now)) };
+
+    /// Gives what stands there a further name where nothing stands. A link is not followed, and no folder has two names.
+    fn link(
+        &self,
+        from_dir: &Self::Fd,
+        from: &Page,
+        to_dir: &Self::Fd,
+        to: &Page,
+    ) -> Result<(), DiskError>
+        requires entered { ∥ entered ∥₁ }
+        requires from { IsReached guards (number from_dir.now) from.now }
+        requires to { IsReached guards (number to_dir.now) to.now }
+        ensures { OnOk result (did (Linked from.now to.now)) };
 
     /// Reads from the offset on, to the buffer's start: how many bytes.
     fn read_at(&self, file: &Self::Fd, buffer: &mut [u8], offset: u64) -> Result<usize, DiskError>

@@ -2,7 +2,7 @@
 
 ghost use Rattle.std.specs.Prelude.{◌≡◌, ◌++◌, false, IfOk, OnOk};
 ghost use Rattle.disk.specs.Names.{IsLawfulName};
-ghost use Rattle.linux_disk.specs.Below.{Reaches, WasMadeFile, WasRemovedFile, WasRenamed};
+ghost use Rattle.linux_disk.specs.Below.{Reaches, WasLinked, WasMadeFile, WasRemovedFile, WasRenamed};
 ghost use Rattle.linux_disk.specs.Held.{held_value};
 ghost use Rattle.linux_disk.specs.Steps.{HasBits, WasOpened, bits_of};
 ghost use Rattle.linux_disk.specs.Ways.{way_in};
@@ -233,6 +233,31 @@ impl<C: SystemCalls + Drop, S: FileStore<Fd = C::Fd> + Drop> Linux<C, S> {
                 self.store.forget(to_key);
             }
             Err(_) => {}
+        }
+        told
+    }
+
+    /// Gives what stands at the name a further one, under which nothing else is kept open any more.
+    pub(crate) fn link_at(
+        &self,
+        pages: (&mut Page, &mut Page),
+        from_dir: &Handle<C>,
+        from: &Name,
+        to_dir: &Handle<C>,
+        to: &Name,
+    ) -> Result<(), DiskError>
+        requires from { IsLawfulName from.now }
+        requires to { IsLawfulName to.now }
+        ensures { OnOk result (WasLinked C.did (Reaches C.guards (C.number (held_value from_dir.now.held)) from_dir.now.below from.now) (Reaches C.guards (C.number (held_value to_dir.now.held)) to_dir.now.below to.now)) }
+    {
+        if !self.store.keeps() {
+            return self.link_name(pages, from_dir, from, to_dir, to);
+        }
+        let (old, new) = pages;
+        let key = Query::new(self.id_of(new, to_dir)?, to);
+        let told = self.link_name((old, new), from_dir, from, to_dir, to);
+        if may_be_done(&told) {
+            self.store.forget(key);
         }
         told
     }

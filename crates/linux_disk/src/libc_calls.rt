@@ -226,6 +226,16 @@ impl SystemCalls for LibC {
         expect_done(unsafe { libc::rename(from.c_string(), to.c_string()) })
     }
 
+    fn link(
+        &self,
+        _from_dir: &OpenFd,
+        from: &Page,
+        _to_dir: &OpenFd,
+        to: &Page,
+    ) -> Result<(), DiskError> {
+        expect_done(unsafe { libc::link(from.c_string(), to.c_string()) })
+    }
+
     fn read_at(&self, file: &OpenFd, buffer: &mut [u8], offset: u64) -> Result<usize, DiskError> {
         count_of(libc::pread(file.fd.as_raw_fd(), buffer, offset as i64))
     }

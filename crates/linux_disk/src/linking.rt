@@ -1,9 +1,9 @@
-//! Links, which are read and made and never followed.
+//! Links, which are read and made and never followed, and further names of what stands at one.
 
 ghost use Rattle.std.specs.Prelude.{IfOk, OnOk};
 ghost use Rattle.disk.specs.Names.{IsLawfulName, IsLinkText};
 ghost use Rattle.linux_disk.specs.Held.{held_value};
-ghost use Rattle.linux_disk.specs.Below.{WasMadeLink, WasReadLink};
+ghost use Rattle.linux_disk.specs.Below.{Reaches, WasLinked, WasMadeLink, WasReadLink};
 
 use crate::calls::SystemCalls;
 use crate::handle::Handle;
@@ -55,5 +55,24 @@ impl<C: SystemCalls + Drop, S: FileStore<Fd = C::Fd> + Drop> Linux<C, S> {
     {
         self.reach(page, dir, name)?;
         self.calls.make_link(dir.fd(), page, text)
+    }
+
+    /// Gives what stands at the name a further one: `link`.
+    pub(crate) fn link_name(
+        &self,
+        pages: (&mut Page, &mut Page),
+        from_dir: &Handle<C>,
+        from: &Name,
+        to_dir: &Handle<C>,
+        to: &Name,
+    ) -> Result<(), DiskError>
+        requires from { IsLawfulName from.now }
+        requires to { IsLawfulName to.now }
+        ensures { OnOk result (WasLinked C.did (Reaches C.guards (C.number (held_value from_dir.now.held)) from_dir.now.below from.now) (Reaches C.guards (C.number (held_value to_dir.now.held)) to_dir.now.below to.now)) }
+    {
+        let (old, new) = pages;
+        self.reach(old, from_dir, from)?;
+        self.reach(new, to_dir, to)?;
+        self.calls.link(from_dir.fd(), old, to_dir.fd(), new)
     }
 }

@@ -4,7 +4,7 @@ ghost use Rattle.std.specs.Prelude.{◌≡◌, ◌⊎◌, ◌≤◌, ◌++◌, f
 ghost use Rattle.disk.specs.Names.{IsLawfulName, IsLinkText};
 ghost use Rattle.terms.specs.declared.settings.Kinds.TheVariants.{All};
 ghost use Rattle.linux_disk.specs.Held.{held_value};
-ghost use Rattle.linux_disk.specs.Below.{EntersDir, HoldsOfOpen, Reaches, WasInspected, WasLooked, WasMadeDir, WasMadeFile, WasMadeLink, WasReadLink, WasRemovedDir, WasRemovedFile, WasRenamed};
+ghost use Rattle.linux_disk.specs.Below.{EntersDir, HoldsOfOpen, Reaches, WasInspected, WasLinked, WasLooked, WasMadeDir, WasMadeFile, WasMadeLink, WasReadLink, WasRemovedDir, WasRemovedFile, WasRenamed};
 ghost use Rattle.linux_disk.specs.Calls.{Done, OpenedAgain, Read, Wrote, SetLen, Synced};
 ghost use Rattle.linux_disk.specs.Listings.{ListsAll};
 ghost use Rattle.linux_disk.specs.Steps.{HasBits, HasBitsAt, IsNothing, ReadsNone, WasOpened, WasSet, WasSetAt, bits_of};
@@ -300,6 +300,26 @@ impl<C: SystemCalls + Drop, S: FileStore<Fd = C::Fd> + Drop> System for Linux<C,
         let mut old = page_of(self.alloc, &self.path)?;
         let mut new = page_of(self.alloc, &self.other)?;
         let told = self.rename_at((&mut old, &mut new), from_dir, from, to_dir, to);
+        self.counts.note_change();
+        self.path.keep(old);
+        self.other.keep(new);
+        told
+    }
+
+    fn link(
+        &mut self,
+        from_dir: &Handle<C>,
+        from: &Name,
+        to_dir: &Handle<C>,
+        to: &Name,
+    ) -> Result<(), DiskError>
+        requires from { IsLawfulName from.now }
+        requires to { IsLawfulName to.now }
+        ensures { OnOk result (WasLinked C.did (Reaches C.guards (C.number (held_value from_dir.now.held)) from_dir.now.below from.now) (Reaches C.guards (C.number (held_value to_dir.now.held)) to_dir.now.below to.now)) }
+    {
+        let mut old = page_of(self.alloc, &self.path)?;
+        let mut new = page_of(self.alloc, &self.other)?;
+        let told = self.link_at((&mut old, &mut new), from_dir, from, to_dir, to);
         self.counts.note_change();
         self.path.keep(old);
         self.other.keep(new);

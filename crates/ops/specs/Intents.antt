@@ -17,7 +17,7 @@ use Rattle.wire.specs.Pairs.{pairs_in}
 use Rattle.wire.specs.Requests.{opcode_of}
 use Rattle.wire.specs.declared.fault.WireFault.{WireFault}
 use Rattle.wire.specs.declared.fault.WireFault.TheVariants as faults
-use Rattle.wire.specs.declared.opcode.TheConstants.{READLINK, SYMLINK}
+use Rattle.wire.specs.declared.opcode.TheConstants.{LINK, READLINK, SYMLINK}
 use Rattle.wire.specs.declared.pairs.ForgetOne.{ForgetOne}
 use Rattle.wire.specs.declared.request.Request.{Request}
 use Rattle.wire.specs.declared.request.Operation.{Operation}
@@ -53,7 +53,7 @@ hides_links kinds.All = false
 
 -- an opcode of links, where the settings show none
 abbrev pub is_unserved : Settings → (opcode : ℕ) → Bool
-is_unserved s opcode = (opcode == READLINK || opcode == SYMLINK) && hides_links s.kinds
+is_unserved s opcode = (opcode == READLINK || opcode == SYMLINK || opcode == LINK) && hides_links s.kinds
 
 -- the error for a frame with that fault. One that is whole, and whose opcode is not served, is told that alone.
 abbrev pub refusal_errno : Settings → (opcode : ℕ) → WireFault → ℤ
@@ -67,6 +67,7 @@ abbrev pub names_of : Operation → List (List ℕ)
 names_of (ops.Lookup name) = name.now ∷ []
 names_of (ops.MakeDir name mode umask) = name.now ∷ []
 names_of (ops.MakeLink name text) = name.now ∷ []
+names_of (ops.Link old_node name) = name.now ∷ []
 names_of (ops.Unlink name) = name.now ∷ []
 names_of (ops.RemoveDir name) = name.now ∷ []
 names_of (ops.Rename name new_parent new_name) = name.now ∷ new_name.now ∷ []
@@ -125,6 +126,10 @@ link_intent parent name text =
     if length text == 0 then refused ENOENT else
     if nat_le 4096 (length text) then refused ENAMETOOLONG else Begin (wants.Name parent name)
 
+-- a further name for a node, but not for the root, which is a folder
+abbrev pub hard_link_intent : ℕ → (parent : ℕ) → List ℕ → Intent
+hard_link_intent number parent name = if number == 1 then refused EPERM else Begin (wants.Link number parent name)
+
 -- a move, by the flags of RENAME2: to any name, to a free name, or an exchange
 abbrev pub rename_intent : ℕ → List ℕ → ℕ → ℕ → List ℕ → Intent
 rename_intent parent name new_parent flags new_name =
@@ -151,6 +156,7 @@ intended s node (ops.SetAttr valid fh size attributes) = set_intent s.attributes
 intended s node (ops.MakeDir name mode umask) = Begin (wants.Name node name.now)
 intended s node ops.ReadLink = Begin (wants.Node node None)
 intended s node (ops.MakeLink name text) = link_intent node name.now text.now
+intended s node (ops.Link old_node name) = hard_link_intent old_node node name.now
 intended s node (ops.Unlink name) = Begin (wants.Remove node name.now true)
 intended s node (ops.RemoveDir name) = Begin (wants.Remove node name.now false)
 intended s node (ops.Rename name new_parent new_name) = Begin (wants.Move node name.now new_parent new_name.now false)
@@ -187,6 +193,7 @@ want_of (wanted.Name parent name) = wants.Name parent name.now
 want_of (wanted.Remove parent name may_hide) = wants.Remove parent name.now may_hide
 want_of (wanted.Move parent name new_parent new_name keep) = wants.Move parent name.now new_parent new_name.now keep
 want_of (wanted.Exchange parent name new_parent new_name) = wants.Exchange parent name.now new_parent new_name.now
+want_of (wanted.Link number parent name) = wants.Link number parent name.now
 want_of (wanted.Open number access) = wants.Open number access
 want_of (wanted.Create parent name access) = wants.Create parent name.now access
 want_of (wanted.Release number fh) = wants.Release number fh

@@ -5,7 +5,7 @@ use Rattle.payload.specs.declared.attributes.Kind.{Kind}
 use Rattle.payload.specs.declared.attributes.Kind.TheVariants.{Folder, File, Link, Special}
 use Rattle.backing.specs.declared.call.Answer.{Answer}
 use Rattle.backing.specs.declared.call.Answer.TheVariants.{Done, Stat, Names, Bytes, Wrote, Fault}
-use Rattle.backing.specs.Calls.{Asked, AskStat, AskList, AskMake, AskMakeDir, AskMakeLink, AskRemove, AskRemoveDir, AskRename, AskRenameNew, AskExchange, AskRead, AskReadLink, AskWrite, AskSetLen, AskSetPermissions, AskSetOwner, AskSetTimes, AskSync}
+use Rattle.backing.specs.Calls.{Asked, AskStat, AskList, AskMake, AskMakeDir, AskMakeLink, AskLink, AskRemove, AskRemoveDir, AskRename, AskRenameNew, AskExchange, AskRead, AskReadLink, AskWrite, AskSetLen, AskSetPermissions, AskSetOwner, AskSetTimes, AskSync}
 
 -- an error number is 1 to 4,095
 abbrev pub is_errno : ℤ → Bool
@@ -34,6 +34,7 @@ fits (AskList p) (Names children) = true
 fits (AskMake p permissions) Done = true
 fits (AskMakeDir p permissions) Done = true
 fits (AskMakeLink p text) Done = true
+fits (AskLink s t) Done = true
 fits (AskRemove p) Done = true
 fits (AskRemoveDir p) Done = true
 fits (AskRename s t) Done = true

@@ -11,7 +11,7 @@ use Rattle.backing.specs.declared.call.Call.{Call}
 use Rattle.backing.specs.declared.call.Child.{Child}
 use Rattle.backing.specs.declared.call.NewTime.{NewTime}
 use Rattle.handles.specs.Listings.{are_lawful}
-use Rattle.backing.specs.Calls.{Asked, asked, AskStat, AskList, AskMake, AskMakeDir, AskMakeLink, AskRemove, AskRemoveDir, AskRename, AskRenameNew, AskExchange, AskRead, AskReadLink, AskWrite, AskSetLen, AskSetPermissions, AskSetOwner, AskSetTimes, AskSync}
+use Rattle.backing.specs.Calls.{Asked, asked, AskStat, AskList, AskMake, AskMakeDir, AskMakeLink, AskLink, AskRemove, AskRemoveDir, AskRename, AskRenameNew, AskExchange, AskRead, AskReadLink, AskWrite, AskSetLen, AskSetPermissions, AskSetOwner, AskSetTimes, AskSync}
 use Rattle.table_steps.specs.Answers.{Claim}
 use Rattle.table_steps.specs.declared.data.Outcome.{Outcome}
 use Rattle.table_steps.specs.declared.data.Outcome.TheVariants.{Failed, Done, Entry, Entries, Hidden, HiddenMove}
@@ -100,7 +100,7 @@ abbrev pub at_candidates : List Names → (Names → List Names → Plan) → Pl
 at_candidates [] plan = failed EIO
 at_candidates (p ∷ ps) plan = plan p ps
 
--- the source of a move, its target, and those under which the file at the target may be hidden
+-- the source of a move or of a further name, its target, and those under which the file at the target may be hidden
 abbrev pub at_paths : List Names → (Names → Names → List Names → Plan) → Plan
 at_paths [] plan = failed EIO
 at_paths (s ∷ ps) plan = at_candidates ps (λ t candidates. plan s t candidates)
@@ -258,6 +258,7 @@ plan_of settings (ops.MakeLink name text) ticket = at_path ticket.paths (λ p. m
 plan_of settings (ops.Unlink name) ticket = at_candidates ticket.paths (λ p candidates. unlink ticket.hide p candidates)
 plan_of settings (ops.RemoveDir name) ticket = at_path ticket.paths (λ p. make (AskRemoveDir p) done)
 plan_of settings (ops.Rename name new_parent new_name) ticket = at_paths ticket.paths (λ s t candidates. rename ticket.same ticket.hide s t candidates)
+plan_of settings (ops.Link old_node name) ticket = at_paths ticket.paths (λ s t candidates. make (AskLink s t) (give_entry t))
 plan_of settings (ops.Open flags) ticket = at_path ticket.paths (λ p. open_file p)
 plan_of settings (ops.Read fh offset size) ticket = at_path ticket.paths (λ p. read p offset size)
 plan_of settings (ops.Write fh offset piece) ticket = at_path ticket.paths (λ p. write p offset piece.now)

@@ -5,7 +5,7 @@ ghost use Rattle.std.specs.List.{list_any};
 ghost use Rattle.paths.specs.Hidden.{is_reserved};
 ghost use Rattle.ops.specs.Intents.{intent_in, has_handle, intended, intent, names_of, needed_to_set, refused, reserved_errno, rename_intent, set_intent, sets_details, sets_other, sets_size};
 
-use crate::links::{is_left_out, link_intent};
+use crate::links::{hard_link_intent, is_left_out, link_intent};
 use crate::opening::{by_handle, create_intent, open_intent};
 use crate::wanted::Wanted;
 use errno::{EINVAL, ENOENT, ENOSYS, EPERM};
@@ -73,6 +73,7 @@ fn names_reserved(operation: &Operation<'_>) -> bool
         Operation::Lookup { name }
         | Operation::MakeDir { name, .. }
         | Operation::MakeLink { name, .. }
+        | Operation::Link { name, .. }
         | Operation::Unlink { name }
         | Operation::RemoveDir { name }
         | Operation::Create { name, .. } => is_reserved(name),
@@ -221,6 +222,7 @@ fn intended<'a>(settings: Settings, node: u64, operation: Operation<'a>) -> Inte
         Operation::Forget { nlookup } => Intent::Forget(ForgetOne { node, nlookup }),
         Operation::BatchForget { pairs } => Intent::ForgetAll { pairs },
         Operation::MakeLink { name, text } => link_intent(parent, name, text),
+        Operation::Link { old_node, name } => hard_link_intent(old_node, parent, name),
         Operation::GetAttr | Operation::ReadLink | Operation::OpenDir => Intent::Want(
             Wanted::Node {
                 number: node,
@@ -283,8 +285,8 @@ fn intended<'a>(settings: Settings, node: u64, operation: Operation<'a>) -> Inte
 /// These are refused at once: an operation that these settings do not serve, with ENOSYS; a reserved name, before
 /// anything else, with ENOENT for LOOKUP and EPERM for any other (own); a SETATTR of a field that these settings do not
 /// set, with EPERM (own); an OPEN or CREATE whose flags have no valid access mode, with EINVAL; a RENAME2 whose flags
-/// are not 0, 1 or 2, with EINVAL (own); and a SYMLINK whose text is empty, with ENOENT, or has 4,096 bytes or more,
-/// with ENAMETOOLONG.
+/// are not 0, 1 or 2, with EINVAL (own); a SYMLINK whose text is empty, with ENOENT, or has 4,096 bytes or more, with
+/// ENAMETOOLONG; and a LINK of the root, which is a folder, with EPERM.
 pub fn intent_of<'a>(settings: Settings, request: &Request<'a>) -> Intent<'a>
     ensures { intent_in result ≡ intent settings request.now }
 {

@@ -42,6 +42,7 @@ fn fits(call: Call<'_>, answer: &Answer) -> bool
             | Call::MakeLink { .. }
             | Call::Remove(_)
             | Call::RemoveDir(_)
+            | Call::Link { .. }
             | Call::Rename { .. }
             | Call::RenameNew { .. }
             | Call::Exchange { .. }

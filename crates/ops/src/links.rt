@@ -1,23 +1,33 @@
-//! Symbolic links: whether they are shown, and what a SYMLINK needs.
+//! Links: whether they are served, and what a SYMLINK and a LINK need.
 
 ghost use Rattle.std.specs.Prelude.{◌≡◌};
-ghost use Rattle.ops.specs.Intents.{intent_in, is_unserved, link_intent, refusal_errno};
+ghost use Rattle.ops.specs.Intents.{hard_link_intent, intent_in, is_unserved, link_intent, refusal_errno};
+ghost use Rattle.ops.specs.Ahead.{plan_ahead};
+ghost use Rattle.ops.specs.Scripts.{at_paths, give_entry, make};
+ghost use Rattle.backing.specs.Calls.{AskLink};
 ghost use Rattle.wire.specs.Requests.{opcode_of};
 
 use crate::intents::{Intent, refused};
+use crate::script::{LastCall, Script, UNFIT};
+use crate::telling::ReplyKind;
 use crate::wanted::Wanted;
-use errno::{ENAMETOOLONG, ENOENT, ENOSYS};
+use backing::Call;
+use errno::{ENAMETOOLONG, ENOENT, ENOSYS, EPERM};
+use table::Ticket;
 use terms::{Kinds, Settings};
-use wire::{Operation, READLINK, SYMLINK, WireFault};
+use wire::{LINK, Operation, READLINK, SYMLINK, WireFault};
 
 /// A link's text has fewer bytes than this, as on Linux (`PATH_MAX` of `limits.h`, which counts the zero at its end).
 pub(crate) const PATH_MAX: usize = 4096;
 
-/// Whether these settings do not serve the opcode: READLINK and SYMLINK, where only files and folders are shown.
+/// The node of the root (`FUSE_ROOT_ID` of `fuse.h`).
+const ROOT: u64 = 1;
+
+/// Whether these settings do not serve the opcode: READLINK, SYMLINK and LINK, where only files and folders are shown.
 fn is_unserved(settings: Settings, opcode: u32) -> bool
     ensures { result ≡ is_unserved settings opcode }
 {
-    matches!(opcode, READLINK | SYMLINK) && settings.kinds == Kinds::Plain
+    matches!(opcode, READLINK | SYMLINK | LINK) && settings.kinds == Kinds::Plain
 }
 
 /// Whether these settings do not serve the operation.
@@ -27,6 +37,7 @@ pub(crate) fn is_left_out(settings: Settings, operation: &Operation<'_>) -> bool
     match operation {
         Operation::ReadLink => is_unserved(settings, READLINK),
         Operation::MakeLink { .. } => is_unserved(settings, SYMLINK),
+        Operation::Link { .. } => is_unserved(settings, LINK),
         _ => false,
     }
 }
@@ -54,4 +65,35 @@ pub(crate) fn link_intent<'a>(parent: u64, name: &'a str, text: &[u8]) -> Intent
         return refused(ENAMETOOLONG);
     }
     Intent::Want(Wanted::Name { parent, name })
+}
+
+/// LINK. The root is a folder, which gets no further name: that is EPERM, as for link(2).
+pub(crate) fn hard_link_intent<'a>(number: u64, parent: u64, name: &'a str) -> Intent<'a>
+    ensures { intent_in result ≡ hard_link_intent number parent name.now }
+{
+    if number == ROOT {
+        return refused(EPERM);
+    }
+    Intent::Want(Wanted::Link {
+        number,
+        parent,
+        name,
+    })
+}
+
+/// The script of a LINK, which gives what is at the first path of its ticket the second as a further name.
+pub(crate) fn start_link(ticket: &Ticket) -> Script<'_>
+    ensures { plan_ahead result ≡ at_paths ticket.now.paths (λ s t candidates. make (AskLink s t) (give_entry t)) }
+{
+    let (change, ending) = match ticket.paths() {
+        [from, to, ..] => (
+            Some(Call::Link { from, to }),
+            LastCall::Look {
+                path: to,
+                tells: ReplyKind::Entry,
+            },
+        ),
+        _ => (None, UNFIT),
+    };
+    Script { change, ending }
 }

@@ -9,6 +9,7 @@ ghost use Rattle.terms.specs.declared.settings.Settings.{Settings as Whose};
 use crate::findings::ScriptResult;
 use crate::hiding::{Hiding, start_unlink, unhidden};
 use crate::judging::{errno_in, judge};
+use crate::links::start_link;
 use crate::looks::{Looks, end_with_looks};
 use crate::moving::{moved, replace_on, start_rename, start_rename_by};
 use crate::parts::{made_with, parts_of};
@@ -192,6 +193,7 @@ impl<'a> Script<'a> {
             Operation::Unlink { .. } => return Ok(start_unlink(ticket)),
             Operation::RemoveDir { .. } => (Some(Call::RemoveDir(path)), DONE),
             Operation::Rename { .. } => return Ok(start_rename(ticket)),
+            Operation::Link { .. } => return Ok(start_link(ticket)),
             Operation::ReadDirPlus { .. } => (None, end_with_looks(alloc, ticket)?),
             Operation::Rename2 { flags, .. } => return Ok(start_rename_by(flags, ticket)),
             Operation::Forget { .. }

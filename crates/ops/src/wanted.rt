@@ -43,6 +43,12 @@ pub enum Wanted<'a> {
         new_parent: u64,
         new_name: &'a str,
     },
+    /// A further name for a node.
+    Link {
+        number: u64,
+        parent: u64,
+        name: &'a str,
+    },
     /// A file to be opened.
     Open {
         number: u64,
@@ -88,6 +94,18 @@ impl<'a> Wanted<'a> {
             Wanted::Name { parent, name } => {
                 let name = Name::copy_of(alloc, name)?;
                 Ok(Want::Name { parent, name })
+            }
+            Wanted::Link {
+                number,
+                parent,
+                name,
+            } => {
+                let name = Name::copy_of(alloc, name)?;
+                Ok(Want::Link {
+                    number,
+                    parent,
+                    name,
+                })
             }
             Wanted::Remove {
                 parent,

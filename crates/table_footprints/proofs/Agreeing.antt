@@ -214,7 +214,7 @@ module _ (at : Lookup) (tree : IsTree at) where
 pub one_entry : (enters : Bool) (ls : List Location) → IsEntered enters ls → length (if enters then key_in ls else []) ≡ (if enters then 1 else 0)
 one_entry false ls entered = refl
 one_entry true [] entered = absurd entered
-one_entry true (AtNode n ∷ ls) entered = absurd entered
+one_entry true (AtNode n ∷ ls) entered = one_entry true ls entered
 one_entry true (AtName parent name ∷ ls) entered = refl
 
 pub promise_for : (enters none : Bool) (ls : List Location) (hold : HoldMode) (change : told_change.ChangeKind) → IsEntered enters ls
@@ -222,10 +222,10 @@ pub promise_for : (enters none : Bool) (ls : List Location) (hold : HoldMode) (c
 promise_for false true ls hold change entered = refl
 promise_for false false ls hold change entered = refl
 promise_for true true [] hold change entered = absurd entered
-promise_for true true (AtNode n ∷ ls) hold change entered = absurd entered
+promise_for true true (AtNode n ∷ ls) hold change entered = promise_for true true ls hold change entered
 promise_for true true (AtName parent name ∷ ls) hold change entered = refl
 promise_for true false [] hold change entered = absurd entered
-promise_for true false (AtNode n ∷ ls) hold change entered = absurd entered
+promise_for true false (AtNode n ∷ ls) hold change entered = promise_for true false ls hold change entered
 promise_for true false (AtName parent name ∷ ls) hold change entered = refl
 
 -- the first two of several paths

@@ -70,6 +70,7 @@ case_once seen tree (wants.Page folder names) c d a b = a ∙ sym b
 case_once seen tree (wants.Open number access) c d a b = a ∙ sym b
 case_once seen tree (wants.Create parent name access) c d a b = entry_once seen.at parent name c d a b
 case_once seen tree (wants.Release number fh) c d a b = closing_once seen.at seen.files number c d a b
+case_once seen tree (wants.Link number parent name) c d a b = entry_once seen.at parent name c d a b
 
 pub demand_once : (seen : Seen) (want : Want) (d e : Footprint) → IsTree seen.at → IsFootprint seen want d → IsFootprint seen want e → d ≡ e
 demand_once seen want d e tree a b = a.footprint ∙ (ap (λ c. footprint_of want c) (case_once seen tree want a.case b.case a.fits b.fits) ∙ sym b.footprint)

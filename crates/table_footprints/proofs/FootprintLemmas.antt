@@ -11,7 +11,7 @@ use Rattle.table_requests.specs.declared.data.Case.TheVariants as cases
 use Rattle.table_requests.specs.declared.data.Want.{Want}
 use Rattle.table_requests.specs.declared.data.Want.TheVariants as wants
 use Rattle.table_footprints.specs.Laws.{AreOwn, AreSiblings, IsGrounded, base_of}
-use Rattle.table_footprints.specs.Footprints.{Location, AtNode, AtName, Opening, Used, are_same, closed_exclusive, closed_at, closed_change, closed_on, closed_footprint, closed_shared, closing, exchange_footprint, used_on, move_footprint, name_footprint, node_footprint, page_names, page_footprint, hidden_in, names_under, removal_footprint, footprint_of}
+use Rattle.table_footprints.specs.Footprints.{Location, AtNode, AtName, Opening, Used, are_same, closed_exclusive, closed_at, closed_change, closed_on, closed_footprint, closed_shared, closing, exchange_footprint, link_footprint, used_on, move_footprint, name_footprint, node_footprint, page_names, page_footprint, hidden_in, names_under, removal_footprint, footprint_of}
 use Rattle.table_footprints.proofs.Members.{any_first, any_later, cases_in, first_in, in_map, later_in, none_in, only_in}
 
 -- a test of two names says whether they have the same bytes
@@ -52,6 +52,31 @@ name_is_row parent name c opens = record {
   paths = λ l h. under_only parent (AtName parent name) l refl h;
   covered = λ n h. inl (any_first (λ l. base_of l ≡ n) (AtName parent name) [] (only_in parent n h));
   entered = inr (λ key h. key_only parent name key h);
+  own = tt;
+  hidden = λ l h. absurd (none_in l h);
+  beside = λ l h. absurd (none_in l h);
+}
+
+-- both locations are at or under the two nodes
+link_under : (number parent : ℕ) (name : Name) (l : Location) → Contains (AtNode number ∷ AtName parent name ∷ []) l → Contains (number ∷ parent ∷ []) (base_of l)
+link_under number parent name l h = elim (cases_in (AtNode number) (AtName parent name ∷ []) l h) [
+  | inl e ↦ subst (λ k. Contains (number ∷ parent ∷ []) k) (ap base_of e) (first_in number (parent ∷ []))
+  | inr more ↦ later_in number (parent ∷ []) (base_of l) (under_only parent (AtName parent name) l refl more)
+]
+
+link_covered : (number parent : ℕ) (name : Name) (n : ℕ) → Contains (number ∷ parent ∷ []) n → Any (λ l. base_of l ≡ n) (AtNode number ∷ AtName parent name ∷ [])
+link_covered number parent name n h = elim (cases_in number (parent ∷ []) n h) [
+  | inl e ↦ any_first (λ l. base_of l ≡ n) (AtNode number) (AtName parent name ∷ []) e
+  | inr more ↦ any_later (λ l. base_of l ≡ n) (AtNode number) (AtName parent name ∷ []) (any_first (λ l. base_of l ≡ n) (AtName parent name) [] (only_in parent n more))
+]
+
+link_is_row : (number parent : ℕ) (name : Name) (c : Case) → IsGrounded (link_footprint number parent name c)
+link_is_row number parent name c = record {
+  shared = link_under number parent name;
+  exclusive = λ l h. absurd (none_in l h);
+  paths = link_under number parent name;
+  covered = λ n h. inl (link_covered number parent name n h);
+  entered = inr (λ key h. later_in (AtNode number) (AtName parent name ∷ []) (AtName key.parent key.name) (key_only parent name key h));
   own = tt;
   hidden = λ l h. absurd (none_in l h);
   beside = λ l h. absurd (none_in l h);
@@ -197,3 +222,4 @@ are_grounded (wants.Page folder names) c = page_is_row folder names
 are_grounded (wants.Open number access) c = node_is_row number None (Some (record { target = AtNode number; access = access }))
 are_grounded (wants.Create parent name access) c = name_is_row parent name c (Some (record { target = AtName parent name; access = access }))
 are_grounded (wants.Release number fh) c = closed_is_row number c (Some (closing number fh)) (Some fh)
+are_grounded (wants.Link number parent name) c = link_is_row number parent name c

@@ -26,8 +26,8 @@ use Rattle.table_footprints.specs.declared.data.NewRequest.{NewRequest}
 use Rattle.table_footprints.specs.declared.gatherings.Reservation.{Reservation}
 use Rattle.table_footprints.specs.Gatherings.{IsEntryAt, IsTaken, IsRecord, IsReservation, HasNoNode, IsWanted}
 use Rattle.table_footprints.specs.NewRequests.{IsNewRequest, IsRefusedRequest, copied, copied_page}
-use Rattle.table_footprints.specs.Footprints.{Footprint, AtName, AtNode, Opening, Used, are_same, exchange_footprint, hidden_in, move_footprint, name_footprint, node_footprint, removal_footprint, footprint_of, used_on}
-use Rattle.table_footprints.proofs.Members.{all_in, any_only, cases_in, first_in, later_in, none_in}
+use Rattle.table_footprints.specs.Footprints.{Footprint, AtName, AtNode, Opening, Used, are_same, exchange_footprint, hidden_in, link_footprint, move_footprint, name_footprint, node_footprint, removal_footprint, footprint_of, used_on}
+use Rattle.table_footprints.proofs.Members.{all_in, any_cases, any_only, cases_in, first_in, later_in, none_in}
 
 -- ---- whether a name has a node
 
@@ -178,6 +178,22 @@ name_opened seen want parent name access t u is fits reservation made = subst (�
 -- a name for which an entry may be given
 pub named_wanted : (seen : Seen) (want : Want) (parent : ℕ) (name : Name) (t : Reservation) → want ≡ wants.Name parent name → IsEntryAt seen.at (AtName parent name ∷ []) t.case → IsReservation seen.at (name_footprint parent name t.case) t → IsWanted seen want t
 named_wanted seen want parent name t is fits reservation = subst (λ (v : Want). IsWanted seen v t) (sym is) (record { fits = entry_case seen.at parent name t.case fits; reservation = reservation })
+
+-- A further name of a node: a node is there, so if one of the two places has none, it is the name.
+link_case : (at : Lookup) (number parent : ℕ) (name : Name) (c : Case) → IsEntryAt at (AtNode number ∷ AtName parent name ∷ []) c → IsEntryCase at parent name c
+link_case at number parent name cases.Plain all =
+    all_in (IsTaken at) (AtNode number ∷ AtName parent name ∷ []) (AtName parent name) all (later_in (AtNode number) (AtName parent name ∷ []) (AtName parent name) (first_in (AtName parent name) []))
+link_case at number parent name cases.Absent any = elim (any_cases (HasNoNode at) (AtNode number) (AtName parent name ∷ []) any) [
+  | inl none ↦ absurd (none number refl)
+  | inr free ↦ any_only (HasNoNode at) (AtName parent name) free
+]
+link_case at number parent name cases.Pathless bad = absurd bad
+link_case at number parent name cases.Last bad = absurd bad
+link_case at number parent name (cases.Hiding n k) bad = absurd bad
+
+pub link_wanted : (seen : Seen) (want : Want) (number parent : ℕ) (name : Name) (t : Reservation) → want ≡ wants.Link number parent name → IsEntryAt seen.at (AtNode number ∷ AtName parent name ∷ []) t.case
+    → IsReservation seen.at (link_footprint number parent name t.case) t → IsWanted seen want t
+link_wanted seen want number parent name t is fits reservation = subst (λ (v : Want). IsWanted seen v t) (sym is) (record { fits = link_case seen.at number parent name t.case fits; reservation = reservation })
 
 pub removal_wanted : (seen : Seen) (want : Want) (parent : ℕ) (name : Name) (may_hide : Bool) (t : Reservation) → want ≡ wants.Remove parent name may_hide
     → IsHidingCase seen parent name may_hide t.case → IsReservation seen.at (removal_footprint parent name (hidden_in t.case)) t → IsWanted seen want t

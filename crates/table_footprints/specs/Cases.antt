@@ -68,6 +68,7 @@ IsCase seen (wants.Page folder names) c = c ≡ cases.Plain
 IsCase seen (wants.Open number access) c = c ≡ cases.Plain
 IsCase seen (wants.Create parent name access) c = IsEntryCase seen.at parent name c
 IsCase seen (wants.Release number fh) c = IsClosingCase seen.at seen.files number c
+IsCase seen (wants.Link number parent name) c = IsEntryCase seen.at parent name c
 
 -- what the want reserves in the current state of the table
 pub record IsFootprint (seen : Seen) (want : Want) (d : Footprint) : Type 0 where

@@ -98,6 +98,14 @@ name_footprint parent name c = record no_footprint {
   births = births_in c;
 }
 
+-- a node, whose path is shared, and a name for which an entry may be given
+abbrev pub link_footprint : ℕ → ℕ → Name → Case → Footprint
+link_footprint number parent name c = record (name_footprint parent name c) {
+  given = number ∷ parent ∷ [];
+  paths = AtNode number ∷ AtName parent name ∷ [];
+  shared = AtNode number ∷ AtName parent name ∷ [];
+}
+
 -- that many candidates under which a file of the node may be hidden, from that counter on
 unfoldable pub hidden_names : ℕ → ℕ → ℕ → List Name
 hidden_names number counter zero = []
@@ -222,6 +230,7 @@ footprint_of (wants.Page folder names) c = page_footprint folder names
 footprint_of (wants.Open number access) c = record (node_footprint number) { opens = Some (record { target = AtNode number; access = access }) }
 footprint_of (wants.Create parent name access) c = record (name_footprint parent name c) { opens = Some (record { target = AtName parent name; access = access }) }
 footprint_of (wants.Release number fh) c = record (closed_footprint number c) { used = Some (closing number fh); closes = Some fh }
+footprint_of (wants.Link number parent name) c = link_footprint number parent name c
 
 -- ---- what a ticket shows of its footprint
 

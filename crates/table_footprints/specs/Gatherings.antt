@@ -70,7 +70,7 @@ exclusive_in Exclusive ls = ls
 
 abbrev pub key_in : List Location → List Key
 key_in [] = []
-key_in (AtNode number ∷ ls) = []
+key_in (AtNode number ∷ ls) = key_in ls
 key_in (AtName parent name ∷ ls) = record { parent = parent; name = name } ∷ []
 
 abbrev pub change_in : told_change.ChangeKind → List Location → Change
@@ -113,9 +113,10 @@ AreNames [] = Unit {0}
 AreNames (AtNode number ∷ ls) = ⊥
 AreNames (AtName parent name ∷ ls) = AreNames ls
 
+-- a name, which may come after nodes
 abbrev pub IsOneName : List Location → Type 0
 IsOneName [] = ⊥
-IsOneName (AtNode number ∷ ls) = ⊥
+IsOneName (AtNode number ∷ ls) = IsOneName ls
 IsOneName (AtName parent name ∷ []) = Unit {0}
 IsOneName (AtName parent name ∷ l ∷ ls) = ⊥
 

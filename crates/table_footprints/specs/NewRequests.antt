@@ -26,6 +26,7 @@ copied (wants.Page folder names) = None
 copied (wants.Open number access) = None
 copied (wants.Create parent name access) = Some name
 copied (wants.Release number fh) = None
+copied (wants.Link number parent name) = Some name
 
 -- the same for the names of a page, for the candidates under which a file may be hidden, and for the first name of an
 -- exchange
@@ -39,6 +40,7 @@ copied_page (wants.Page folder names) c = names
 copied_page (wants.Open number access) c = []
 copied_page (wants.Create parent name access) c = []
 copied_page (wants.Release number fh) c = []
+copied_page (wants.Link number parent name) c = []
 
 -- its end does not allocate: there is room for what it may pin and answer
 pub record IsProvided (work : Work) (pins : Pinned) : Type 0 where

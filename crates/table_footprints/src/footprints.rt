@@ -203,5 +203,18 @@ pub(crate) fn reservation_for(
             reservation_with_file(alloc, tree, &footprint)
         }
         Want::Release { number, fh: _ } => closing_reservation(alloc, tree, files, *number),
+        Want::Link {
+            number,
+            parent,
+            name,
+        } => {
+            let footprint = UniformFootprint {
+                locations: &[Location::AtNode(*number), Location::AtName(*parent, name)],
+                hold: HoldMode::Shared,
+                enters: true,
+                change: ChangeKind::Stays,
+            };
+            reservation_of(alloc, tree, &footprint)
+        }
     }
 }

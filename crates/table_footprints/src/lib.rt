@@ -79,7 +79,8 @@ fn copied(want: &Want) -> Result<Option<Name>, AllocError>
         Want::Name { name, .. }
         | Want::Move { new_name: name, .. }
         | Want::Exchange { new_name: name, .. }
-        | Want::Create { name, .. } => Ok(Some(name.copy()?)),
+        | Want::Create { name, .. }
+        | Want::Link { name, .. } => Ok(Some(name.copy()?)),
     }
 }
 
@@ -106,7 +107,8 @@ fn copies(alloc: Global, want: &Want, _case: Case, candidates: &Names) -> Result
         | Want::Name { .. }
         | Want::Open { .. }
         | Want::Create { .. }
-        | Want::Release { .. } => Ok(Names::new(alloc)),
+        | Want::Release { .. }
+        | Want::Link { .. } => Ok(Names::new(alloc)),
     }
 }
 

@@ -50,6 +50,7 @@ candidates_reserved (wants.Page folder names) c = none_reserved
 candidates_reserved (wants.Open number access) c = none_reserved
 candidates_reserved (wants.Create parent name access) c = none_reserved
 candidates_reserved (wants.Release number fh) c = none_reserved
+candidates_reserved (wants.Link number parent name) c = none_reserved
 
 -- ---- what is done
 
@@ -74,6 +75,7 @@ done_spares (wants.Page folder names) c plain = tt
 done_spares (wants.Open number access) c plain = tt
 done_spares (wants.Create parent name access) c plain = tt
 done_spares (wants.Release number fh) c plain = closed_spares number fh c
+done_spares (wants.Link number parent name) c plain = tt
 
 -- ---- outcomes
 

@@ -23,6 +23,7 @@ names_given (wants.Page folder names) = []
 names_given (wants.Open number access) = []
 names_given (wants.Create parent name access) = name ∷ []
 names_given (wants.Release number fh) = []
+names_given (wants.Link number parent name) = name ∷ []
 
 -- none of them is a name that the server keeps for itself
 abbrev pub IsUnreserved : Want → Type 0

@@ -76,6 +76,12 @@ pub enum Want {
         number: u64,
         fh: u64,
     },
+    /// A node, whose file gets a further name under a parent (LINK).
+    Link {
+        number: u64,
+        parent: u64,
+        name: Name,
+    },
 }
 
 /// What a request's footprint takes from the table besides its want. It is judged once, when the request begins.

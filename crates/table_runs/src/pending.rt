@@ -137,5 +137,14 @@ pub(crate) fn copy_of(want: &Want) -> Result<Want, AllocError>
             number: *number,
             fh: *fh,
         }),
+        Want::Link {
+            number,
+            parent,
+            name,
+        } => Ok(Want::Link {
+            number: *number,
+            parent: *parent,
+            name: name.copy()?,
+        }),
     }
 }

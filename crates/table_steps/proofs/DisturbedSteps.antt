@@ -108,6 +108,7 @@ hidden_begun seen (wants.Page folder names) c fits none l h = absurd (none_in l 
 hidden_begun seen (wants.Open number access) c fits none l h = absurd (none_in l h)
 hidden_begun seen (wants.Create parent name access) c fits none l h = absurd (none_in l h)
 hidden_begun seen (wants.Release number fh) c fits none l h = absurd (none_in l h)
+hidden_begun seen (wants.Link number parent name) c fits none l h = absurd (none_in l h)
 
 -- the number of the node that is cut by its number
 abbrev cut_by : Change → Option ℕ
@@ -161,6 +162,7 @@ closed_begun w (wants.Release n fh) cases.Last fits usable number e isopen =
     let same : n ≡ number = same_Some n number (ap cut_by e) in
     release_closed w n fh cases.Last usable fits.1.one (subst (λ k. IsOpen (files_without (Some fh) w.files) k) (sym same) isopen)
 closed_begun w (wants.Release n fh) (cases.Hiding k counter) fits usable number e isopen = absurd fits
+closed_begun w (wants.Link n parent name) c fits usable number e isopen = not_cut stays number refl e
 
 marked_begun : (w : World) (want : Want) (c : Case) → IsCase (seen_in w) want c → (number : ℕ) → (footprint_of want c).done ≡ cuts (AtNode number) → (x : Node) → w.at number ≡ Some x → x.hidden ≡ true
 marked_begun w (wants.Node n handle) c fits number e x here = absurd (not_cut stays number refl e)
@@ -178,6 +180,7 @@ marked_begun w (wants.Release n fh) cases.Last fits number e x here =
     let same : n ≡ number = same_Some n number (ap cut_by e) in
     ap (λ (y : Node). y.hidden) (same_Some x fits.1.node (sym here ∙ (ap w.at (sym same) ∙ fits.1.here))) ∙ fits.1.hidden
 marked_begun w (wants.Release n fh) (cases.Hiding k counter) fits number e x here = absurd fits
+marked_begun w (wants.Link n parent name) c fits number e x here = absurd (not_cut stays number refl e)
 
 pub begun_undisturbed : (old new : World) (unique : ℕ) (want : Want) (d : Footprint) (ticket : Claim) → IsFootprint (seen_in old) want d → (IsBadHandle old d → ⊥) → GoesOn old unique want d ticket new → IsSteady old → IsSteady new
     → AreUndisturbed old.at old.files old.flights → AreUndisturbed new.at new.files new.flights
@@ -286,6 +289,7 @@ opens_shared (wants.Create parent name access) c o e =
     let opening : Opening = record { target = AtName parent name; access = access } in
     (subst (λ (x : Opening). Contains (AtName parent name ∷ []) x.target) (same_Some opening o e) (first_in (AtName parent name) []), refl)
 opens_shared (wants.Release number fh) c o e = absurd (none-some o e)
+opens_shared (wants.Link number parent name) c o e = absurd (none-some o e)
 
 none_entered : (owners : RequestsInFlight) (at at' : Lookup) (ps qs : Periods) (keys : List Key) (given : List (Option Given)) → EntersAll owners at ps keys (none_found keys) given at' qs → at' ≡ at
 none_entered owners at at' ps qs [] [] same = same.0

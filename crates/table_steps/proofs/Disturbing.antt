@@ -43,6 +43,7 @@ own_hidden (wants.Page folder names) case l h = absurd (none_in l h)
 own_hidden (wants.Open number access) case l h = absurd (none_in l h)
 own_hidden (wants.Create parent name access) case l h = absurd (none_in l h)
 own_hidden (wants.Release number fh) case l h = absurd (none_in l h)
+own_hidden (wants.Link number parent name) case l h = absurd (none_in l h)
 
 -- ---- paths of locations
 

@@ -28,7 +28,7 @@ use Rattle.table_footprints.specs.Cases.{IsCase, IsClosingCase, Seen}
 use Rattle.table_footprints.specs.Laws.{AreOwn, IsGrounded, base_of}
 use Rattle.table_footprints.specs.NewRequests.{footprint_in}
 use Rattle.table_footprints.specs.Footprints.{AtName, AtNode, Change, Footprint, Opening, closed_exclusive, cuts, exchanges, hidden_in, hides, moves, names_under, page_keys, replaces, footprint_of, stays}
-use Rattle.table_footprints.proofs.Members.{any_in, cases_in, first_in, in_map, none_in, only_in}
+use Rattle.table_footprints.proofs.Members.{any_in, cases_in, first_in, in_map, later_in, none_in, only_in}
 use Rattle.table_footprints.proofs.FootprintLemmas.{are_grounded}
 use Rattle.table_steps.specs.declared.state.State.{State}
 use Rattle.table_steps.specs.Ending.{AreUnder, AreUnowned, IsEnding, LeadsTo, MayAlter, MayEnter, MayFill, folders_of, name_at}
@@ -57,6 +57,8 @@ entries_under (wants.Page folder names) c key h =
 entries_under (wants.Open number access) c key h = absurd (none_in key h)
 entries_under (wants.Create parent name access) c key h = subst (λ (k : Key). Contains (parent ∷ []) k.parent) (only_in (record { parent = parent; name = name }) key h) (first_in parent [])
 entries_under (wants.Release number fh) c key h = absurd (none_in key h)
+entries_under (wants.Link number parent name) c key h =
+    later_in number (parent ∷ []) key.parent (subst (λ (k : Key). Contains (parent ∷ []) k.parent) (only_in (record { parent = parent; name = name }) key h) (first_in parent []))
 
 -- and is shared, unless it is a name of a page
 entries_shared : (want : Want) (c : Case) → (footprint_of want c).page ≡ false → (key : Key) → Contains (footprint_of want c).entries key → Contains (footprint_of want c).shared (name_at key)
@@ -69,6 +71,8 @@ entries_shared (wants.Page folder names) c one key h = absurd (true≢false one)
 entries_shared (wants.Open number access) c one key h = absurd (none_in key h)
 entries_shared (wants.Create parent name access) c one key h = subst (λ (k : Key). Contains (AtName parent name ∷ []) (name_at k)) (only_in (record { parent = parent; name = name }) key h) (first_in (AtName parent name) [])
 entries_shared (wants.Release number fh) c one key h = absurd (none_in key h)
+entries_shared (wants.Link number parent name) c one key h =
+    later_in (AtNode number) (AtName parent name ∷ []) (name_at key) (subst (λ (k : Key). Contains (AtName parent name ∷ []) (name_at k)) (only_in (record { parent = parent; name = name }) key h) (first_in (AtName parent name) []))
 
 -- a node is promised for each name of a page
 page_births : (want : Want) (c : Case) → (footprint_of want c).page ≡ true → (footprint_of want c).births ≡ length (footprint_of want c).entries
@@ -81,6 +85,7 @@ page_births (wants.Page folder names) c page = sym (length-map names (λ (name :
 page_births (wants.Open number access) c page = refl
 page_births (wants.Create parent name access) c page = absurd (false≢true page)
 page_births (wants.Release number fh) c page = refl
+page_births (wants.Link number parent name) c page = absurd (false≢true page)
 
 name_else : (parent : ℕ) (name : Name) → AtName parent name ≡ AtNode 1 → ⊥
 name_else parent name e = cc
@@ -116,6 +121,7 @@ rows_placed seen (wants.Exchange parent name new_parent new_name) c fits h = eli
 rows_placed seen (wants.Open number access) c fits h = none_in (AtNode 1) h
 rows_placed seen (wants.Create parent name access) c fits h = none_in (AtNode 1) h
 rows_placed seen (wants.Release number fh) c fits h = closing_placed seen.at seen.files number c fits h
+rows_placed seen (wants.Link number parent name) c fits h = none_in (AtNode 1) h
 
 -- if no file is opened, none is opened without an entry
 pub none_alone : (b : Bool) (o : Option Opening) → o ≡ None → (if b then o else None) ≡ None
@@ -137,6 +143,7 @@ node_given (wants.Open n a) c number access e =
     subst (λ k. Contains (n ∷ []) k) (sym same) (first_in n [])
 node_given (wants.Create parent name a) c number access e = absurd (none-some _ (sym e))
 node_given (wants.Release n fh) c number access e = absurd (none-some _ (sym e))
+node_given (wants.Link n parent name) c number access e = absurd (none-some _ (sym e))
 
 -- ---- paths
 
@@ -189,6 +196,7 @@ lead_of at (wants.Page folder names) c held holds n h = subst (λ k. LeadsTo at 
 lead_of at (wants.Open number access) c held holds n h = absurd (none_in n h)
 lead_of at (wants.Create parent name access) c held holds n h = absurd (none_in n h)
 lead_of at (wants.Release number fh) c held holds n h = absurd (none_in n h)
+lead_of at (wants.Link number parent name) c held holds n h = absurd (none_in n h)
 
 -- ---- what a request may do at its end
 

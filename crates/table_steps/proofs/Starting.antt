@@ -110,6 +110,7 @@ hides_so seen (wants.Page folder names) c fits kept is = none_fit kept (is ∙ a
 hides_so seen (wants.Open number access) c fits kept is = none_fit kept (is ∙ ap (λ (k : Case). hidden_in k) fits)
 hides_so seen (wants.Create parent name access) c fits kept is = none_fit kept (is ∙ entry_fits seen.at parent name c fits)
 hides_so seen (wants.Release number fh) c fits kept is = none_fit kept (is ∙ closing_fits seen.at seen.files number c fits)
+hides_so seen (wants.Link number parent name) c fits kept is = none_fit kept (is ∙ entry_fits seen.at parent name c fits)
 
 closing_stays : (number : ℕ) (c : Case) → false ≡ is_same (closed_change number c)
 closing_stays number cases.Plain = refl
@@ -129,6 +130,7 @@ same_case (wants.Page folder names) c = refl
 same_case (wants.Open number access) c = refl
 same_case (wants.Create parent name access) c = refl
 same_case (wants.Release number fh) c = closing_stays number c
+same_case (wants.Link number parent name) c = refl
 
 -- nor does the handle that is closed
 pub same_closes : (want : Want) (c : Case) → (footprint_of want cases.Plain).closes ≡ (footprint_of want c).closes
@@ -141,6 +143,7 @@ same_closes (wants.Page folder names) c = refl
 same_closes (wants.Open number access) c = refl
 same_closes (wants.Create parent name access) c = refl
 same_closes (wants.Release number fh) c = refl
+same_closes (wants.Link number parent name) c = refl
 
 same_record : (v w : RecordedWork) → recorded.Working v ≡ recorded.Working w → v ≡ w
 same_record v w e = cc

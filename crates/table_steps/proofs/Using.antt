@@ -26,6 +26,7 @@ used_same (wants.Page folder names) c = refl
 used_same (wants.Open number access) c = refl
 used_same (wants.Create parent name access) c = refl
 used_same (wants.Release number fh) c = refl
+used_same (wants.Link number parent name) c = refl
 
 -- a want that uses a handle has a case
 case_using : (seen : Seen) → IsTree seen.at → (many : ℕ) → IsSum seen.files (λ file. 1) many → (want : Want) (used : Used) → Some used ≡ (footprint_of want cases.Plain).used → (c : Case) × IsCase seen want c
@@ -38,6 +39,7 @@ case_using seen tree many sum (wants.Exchange parent name new_parent new_name) u
 case_using seen tree many sum (wants.Page folder names) used some = absurd (none-some used (sym some))
 case_using seen tree many sum (wants.Open number access) used some = absurd (none-some used (sym some))
 case_using seen tree many sum (wants.Create parent name access) used some = absurd (none-some used (sym some))
+case_using seen tree many sum (wants.Link number parent name) used some = absurd (none-some used (sym some))
 
 module _ (w : World) (want : Want) where
   pub none_used : None ≡ (footprint_of want cases.Plain).used → IsHandleUsable w want

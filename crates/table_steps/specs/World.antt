@@ -184,6 +184,7 @@ hidden_at (wants.Page folder names) = []
 hidden_at (wants.Open number access) = []
 hidden_at (wants.Create parent name access) = []
 hidden_at (wants.Release number fh) = []
+hidden_at (wants.Link number parent name) = []
 
 -- no file of what is there is open
 abbrev pub IsClosedAt : Lookup → Files → Location → Type 0

@@ -182,5 +182,11 @@ pub(crate) fn acts_of(
             candidates: None,
             opens: Opens::Nothing,
         },
+        Want::Link { parent, name, .. } => Acts {
+            entries: EnteredNames::One(Keys::new(parent, name, copy)),
+            change: NameChange::Stays,
+            candidates: None,
+            opens: Opens::Nothing,
+        },
     }
 }

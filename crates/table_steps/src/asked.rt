@@ -40,7 +40,8 @@ pub(crate) fn is_same(want: &Want) -> bool
         | Want::Page { .. }
         | Want::Open { .. }
         | Want::Create { .. }
-        | Want::Release { .. } => false,
+        | Want::Release { .. }
+        | Want::Link { .. } => false,
     }
 }
 
@@ -66,7 +67,8 @@ pub(crate) fn used_by(want: &Want) -> Option<(u64, Handle)>
         | Want::Exchange { .. }
         | Want::Page { .. }
         | Want::Open { .. }
-        | Want::Create { .. } => None,
+        | Want::Create { .. }
+        | Want::Link { .. } => None,
     }
 }
 
@@ -83,7 +85,8 @@ pub(crate) fn closed_by(want: &Want) -> Option<u64>
         | Want::Exchange { .. }
         | Want::Page { .. }
         | Want::Open { .. }
-        | Want::Create { .. } => None,
+        | Want::Create { .. }
+        | Want::Link { .. } => None,
     }
 }
 
@@ -110,6 +113,7 @@ pub(crate) fn is_last(want: &Want, case: Case) -> bool
         | Want::Exchange { .. }
         | Want::Page { .. }
         | Want::Open { .. }
-        | Want::Create { .. } => false,
+        | Want::Create { .. }
+        | Want::Link { .. } => false,
     }
 }

@@ -13,7 +13,7 @@ pub enum AttributeSource {
 /// Which kinds of files a session shows.
 #[derive(Clone, Copy, Debug, PartialEq, Eq)]
 pub enum Kinds {
-    /// Files and folders alone. READLINK and SYMLINK are not served (ENOSYS).
+    /// Files and folders alone. READLINK, SYMLINK and LINK are not served (ENOSYS).
     Plain,
     /// All: links, pipes, sockets and devices too. A link's text is read, and its target never.
     All,

@@ -1,6 +1,6 @@
 //! Calls as words, and answers as text.
 
-use crate::details::{call_that_sets, mode_told, octal, owner_told, times_told};
+use crate::details::{call_that_sets, mode_told, names_told, octal, owner_told, times_told};
 use crate::texts;
 use backing::{Answer, Call, Calls, Child};
 use paths::{Name, Path};
@@ -24,7 +24,7 @@ fn number(text: &str) -> u64 {
     text.parse::<u64>().unwrap_or(0)
 }
 
-/// The call with that name on the path. For a rename or an exchange the other path is its second one, and `first` and
+/// The call with that name on the path. For a rename, an exchange or a further name the other path is its second one, and `first` and
 /// `second` are its numbers or bytes.
 fn call_of<'a>(
     name: &str,
@@ -59,6 +59,10 @@ fn call_of<'a>(
         "exchange" => Call::Exchange {
             first: path,
             second: other,
+        },
+        "name" => Call::Link {
+            from: path,
+            to: other,
         },
         "read" => Call::Read {
             path,
@@ -154,8 +158,8 @@ fn check_link<C: Calls>(alloc: Global, calls: &mut C, path: &Path) -> Result<Str
 
 /// The answer to a call that is written as its name, its paths and its numbers or bytes, separated by spaces. For many
 /// bytes, `fill` writes them in one call, and `check` reads them in one. `link` makes a link with that text, `link-hex` with
-/// the bytes that it spells, and `link-fill` with so many, which `link-check` reads. `mode`, `owner` and `times` show parts of
-/// what a STAT reports.
+/// the bytes that it spells, and `link-fill` with so many, which `link-check` reads. `name` gives what stands at the path a further
+/// one. `mode`, `owner`, `times` and `names`, how many what stands there has, show parts of what a STAT reports.
 pub fn ask<C: Calls>(alloc: Global, calls: &mut C, words: &str) -> Result<String, AllocError> {
     let mut parts = words.split(' ');
     let name = parts.next().unwrap_or("");
@@ -172,6 +176,7 @@ pub fn ask<C: Calls>(alloc: Global, calls: &mut C, words: &str) -> Result<String
         "mode" => return mode_told(alloc, calls.call(Call::Stat(&path))),
         "owner" => return owner_told(alloc, calls.call(Call::Stat(&path))),
         "times" => return times_told(alloc, calls.call(Call::Stat(&path))),
+        "names" => return names_told(alloc, calls.call(Call::Stat(&path))),
         _ => {}
     }
     let other = path_of(alloc, first)?;

@@ -76,6 +76,15 @@ pub fn owner_told(alloc: Global, answer: Answer) -> Result<String, AllocError> {
     }
 }
 
+/// How many names it has, by a STAT.
+pub fn names_told(alloc: Global, answer: Answer) -> Result<String, AllocError> {
+    match answer {
+        Answer::Stat { details, .. } => format!(in alloc; "{}", details.links),
+        Answer::Fault(errno) => format!(in alloc; "fault {errno}"),
+        _ => String::from_str(alloc, "no names"),
+    }
+}
+
 /// The times of the last read and the last change in a STAT.
 pub fn times_told(alloc: Global, answer: Answer) -> Result<String, AllocError> {
     match answer {

@@ -30,6 +30,8 @@ mod moved;
 #[cfg(test)]
 mod moves;
 #[cfg(test)]
+mod naming;
+#[cfg(test)]
 mod opening;
 #[cfg(test)]
 mod planned;

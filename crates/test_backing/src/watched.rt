@@ -178,6 +178,17 @@ impl<C: SystemCalls + Drop> SystemCalls for Watched<C> {
         self.calls.rename(from_dir, from, to_dir, to)
     }
 
+    fn link(
+        &self,
+        from_dir: &C::Fd,
+        from: &Page,
+        to_dir: &C::Fd,
+        to: &Page,
+    ) -> Result<(), DiskError> {
+        self.watch.note("link")?;
+        self.calls.link(from_dir, from, to_dir, to)
+    }
+
     fn read_at(&self, file: &C::Fd, buffer: &mut [u8], offset: u64) -> Result<usize, DiskError> {
         self.watch.note("read")?;
         self.calls.read_at(file, buffer, offset)

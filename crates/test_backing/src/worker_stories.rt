@@ -93,3 +93,23 @@ pub const LINKED: &[(Who, &str, &str)] = &[
     (Second, "readlink a", "fault 22"),
     (Second, "read a 0 9", "bytes 6e6577"),
 ];
+
+/// A further name that one of them gives is told by the other one at once, also what a list of its own has shown.
+pub const NAMED: &[(Who, &str, &str)] = &[
+    (First, "list .", "names a d/ e"),
+    (First, "names a", "1"),
+    (Second, "name a d/b", "done"),
+    (First, "names a", "2"),
+    (First, "read d/b 0 9", "bytes 616263"),
+    (Second, "write a 0 x", "wrote 1"),
+    (First, "read d/b 0 9", "bytes 786263"),
+    (First, "write d/b 0 y", "wrote 1"),
+    (Second, "read a 0 9", "bytes 796263"),
+    (First, "list d", "names b"),
+    (Second, "remove a", "done"),
+    (First, "names d/b", "1"),
+    (First, "stat a", "fault 2"),
+    (First, "name d/b a", "done"),
+    (Second, "read a 0 9", "bytes 796263"),
+    (Second, "names d/b", "2"),
+];

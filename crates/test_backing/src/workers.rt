@@ -7,7 +7,7 @@ use crate::telling::{Item, put};
 use crate::watch::{Trick, Watch};
 use crate::watched::Watched;
 use crate::worker_stories::Who::{First, Second};
-use crate::worker_stories::{CHANGED, FOLLOWED, LINKED, Who};
+use crate::worker_stories::{CHANGED, FOLLOWED, LINKED, NAMED, Who};
 use backing::MemTree;
 use disk::Unknown;
 use disk_folder::Folder;
@@ -160,6 +160,15 @@ fn a_link_that_one_worker_makes_the_other_one_does_not_follow(rt: HostRuntime) -
     let root = sample_folder(&rt, "linked")?;
     let watch = Watch::new(&rt, root.as_str())?;
     tell(&rt, rt.alloc(), root.as_str(), Kinds::All, watch, LINKED)?;
+    fs::remove_dir_all(&rt, root.as_str())?;
+    Ok(())
+}
+
+#[test]
+fn a_further_name_that_one_worker_gives_the_other_one_tells(rt: HostRuntime) -> Result<(), Fail> {
+    let root = sample_folder(&rt, "named")?;
+    let watch = Watch::new(&rt, root.as_str())?;
+    tell(&rt, rt.alloc(), root.as_str(), Kinds::All, watch, NAMED)?;
     fs::remove_dir_all(&rt, root.as_str())?;
     Ok(())
 }

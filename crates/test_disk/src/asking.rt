@@ -1,8 +1,8 @@
 //! A system that is asked by words. What it opens is kept, and named by a number: 0 is the folder itself.
 
 use crate::words::{
-    WORDS, change_of, done_text, error_text, is_link_text, name_of, number, octal, stat_text,
-    target_text, times_text, words_of,
+    WORDS, change_of, done_text, error_text, is_link_text, name_of, number, octal, same_text,
+    stat_text, target_text, times_text, words_of,
 };
 use disk::{Access, DiskError, System};
 use paths::Name;
@@ -41,7 +41,8 @@ impl<S: System + Drop> Asked<S> {
             "look" | "when" | "inspect" | "list" | "sync" | "changes" => self.ask_to_look(&words),
             "dir" | "open" | "make" | "close" => self.ask_to_open(&words),
             "read" | "write" | "setlen" => self.ask_for_bytes(&words),
-            "mkdir" | "remove" | "rmdir" | "rename" => self.ask_to_move(&words),
+            "mkdir" | "remove" | "rmdir" => self.ask_to_change(&words),
+            "rename" | "name" | "same" => self.ask_about_two(&words),
             "link" | "target" => self.ask_about_links(&words),
             _ => self.ask_to_set(&words),
         }
@@ -132,7 +133,7 @@ impl<S: System + Drop> Asked<S> {
         }
     }
 
-    fn ask_to_move(&mut self, words: &[&str; WORDS]) -> Result<String, AllocError> {
+    fn ask_to_change(&mut self, words: &[&str; WORDS]) -> Result<String, AllocError> {
         let alloc = self.alloc;
         let Some(at) = self.open.get(number(words[1]) as usize) else {
             return self.none();
@@ -143,18 +144,35 @@ impl<S: System + Drop> Asked<S> {
         let told = match words[0] {
             "mkdir" => self.system.make_dir(at, &name, octal(words[3])),
             "remove" => self.system.remove_file(at, &name),
-            "rmdir" => self.system.remove_dir(at, &name),
-            _ => {
-                let Some(to) = self.open.get(number(words[3]) as usize) else {
-                    return self.none();
-                };
-                let Some(new_name) = name_of(alloc, words[4])? else {
-                    return self.none();
-                };
-                self.system.rename(at, &name, to, &new_name)
-            }
+            _ => self.system.remove_dir(at, &name),
         };
         done_text(alloc, told)
+    }
+
+    /// `rename` moves what stands at the one name to the other, `name` gives it that name as well, and `same` tells whether both are names
+    /// of one file, and how many it has.
+    fn ask_about_two(&mut self, words: &[&str; WORDS]) -> Result<String, AllocError> {
+        let alloc = self.alloc;
+        let (Some(at), Some(to)) = (
+            self.open.get(number(words[1]) as usize),
+            self.open.get(number(words[3]) as usize),
+        ) else {
+            return self.none();
+        };
+        let Some(name) = name_of(alloc, words[2])? else {
+            return self.none();
+        };
+        let Some(new_name) = name_of(alloc, words[4])? else {
+            return self.none();
+        };
+        match words[0] {
+            "rename" => done_text(alloc, self.system.rename(at, &name, to, &new_name)),
+            "name" => done_text(alloc, self.system.link(at, &name, to, &new_name)),
+            _ => {
+                let one = self.system.look(at, &name);
+                same_text(alloc, one, self.system.look(to, &new_name))
+            }
+        }
     }
 
     /// `link` makes one with that text, and `target` tells the text of one.

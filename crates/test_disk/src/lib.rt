@@ -12,6 +12,8 @@ mod interrupted;
 #[cfg(test)]
 mod links;
 #[cfg(test)]
+mod naming;
+#[cfg(test)]
 mod setting;
 #[cfg(test)]
 mod sharing;

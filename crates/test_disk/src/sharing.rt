@@ -65,9 +65,11 @@ enum Who {
     Wait,
     /// Others put another file in the place of that one.
     Others,
+    /// Others take it away.
+    Gone,
 }
 
-use Who::{First, Opened, Others, Second, Wait as Later};
+use Who::{First, Gone, Opened, Others, Second, Wait as Later};
 
 /// Two workers serve the folder `in` there, and keep two files open.
 fn tell<R: Files<File = File> + Clock + Wait + RandomSource + Clone + Drop>(
@@ -97,6 +99,10 @@ fn tell<R: Files<File = File> + Clock + Wait + RandomSource + Clone + Drop>(
                 let other = format!(in alloc; "{top}/out/other")?;
                 fs::write(rt, other.as_str(), *wanted)?;
                 fs::rename(rt, other.as_str(), place.as_str())?;
+            }
+            Gone => {
+                let place = format!(in alloc; "{}/{}", path.as_str(), *words)?;
+                fs::remove_file(rt, place.as_str())?;
             }
         }
     }
@@ -184,6 +190,33 @@ fn what_others_put_there_is_seen_after_a_second(rt: HostRuntime) -> Result<(), F
         (Second, "read 1 0", "4 [109, 105, 110, 101]"),
     ];
     let top = new_top(&rt, "others")?;
+    tell(&rt, rt.alloc(), top.as_str(), STEPS)?;
+    fs::remove_dir_all(&rt, top.as_str())?;
+    Ok(())
+}
+
+/// What was kept open under a name that others have made free is not what stands there then. No time passes between.
+#[test]
+fn a_further_name_is_that_of_its_file(rt: HostRuntime) -> Result<(), Fail> {
+    const STEPS: &[(Who, &str, &str)] = &[
+        (First, "make 0 a 600", "open 1"),
+        (First, "write 1 0 one", "wrote 3"),
+        (First, "make 0 b 600", "open 2"),
+        (Gone, "b", ""),
+        (First, "name 0 a 0 b", "done"),
+        (Second, "changes", "4"),
+        (Second, "open 0 b w", "open 1"),
+        (Opened(1), "not as it was kept", ""),
+        (Second, "read 1 0", "3 [111, 110, 101]"),
+        (Second, "write 1 0 two", "wrote 3"),
+        (First, "read 1 0", "3 [116, 119, 111]"),
+        (Second, "same 0 a 0 b", "one of 2"),
+        (First, "remove 0 a", "done"),
+        (Second, "open 0 a r", "Absent"),
+        (First, "open 0 b r", "open 3"),
+        (First, "read 3 0", "3 [116, 119, 111]"),
+    ];
+    let top = new_top(&rt, "further")?;
     tell(&rt, rt.alloc(), top.as_str(), STEPS)?;
     fs::remove_dir_all(&rt, top.as_str())?;
     Ok(())

@@ -228,6 +228,16 @@ impl<C: SystemCalls + Drop> SystemCalls for Watched<C> {
         self.calls.rename(from_dir, from, to_dir, to)
     }
 
+    fn link(
+        &self,
+        from_dir: &C::Fd,
+        from: &Page,
+        to_dir: &C::Fd,
+        to: &Page,
+    ) -> Result<(), DiskError> {
+        self.calls.link(from_dir, from, to_dir, to)
+    }
+
     fn read_at(&self, file: &C::Fd, buffer: &mut [u8], offset: u64) -> Result<usize, DiskError> {
         if self.watch.ends() {
             return Err(DiskError::Failed(INTERRUPTED));

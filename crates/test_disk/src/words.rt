@@ -138,6 +138,25 @@ fn kind_text(kind: Kind, size: u64) -> (&'static str, u64) {
     }
 }
 
+/// Whether both looks are at one file, and how many names it has.
+pub fn same_text(
+    alloc: Global,
+    one: Result<Stat, DiskError>,
+    other: Result<Stat, DiskError>,
+) -> Result<String, AllocError> {
+    match (one, other) {
+        (Ok(one), Ok(other)) => {
+            if one.id.is(&other.id) && one.details.ino == other.details.ino {
+                format!(in alloc; "one of {}", other.details.links)
+            } else {
+                String::from_str(alloc, "two")
+            }
+        }
+        (Err(error), _) => error_text(alloc, error),
+        (_, Err(error)) => error_text(alloc, error),
+    }
+}
+
 /// When it was last read and last changed, as `time` takes it.
 pub fn times_text(alloc: Global, told: Result<Stat, DiskError>) -> Result<String, AllocError> {
     match told {

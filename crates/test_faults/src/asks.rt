@@ -13,6 +13,8 @@ pub enum Ask {
     /// With that text.
     MakeLink(&'static str, &'static [u8]),
     ReadLink(&'static str),
+    /// From one name to another.
+    Link(&'static str, &'static str),
     Remove(&'static str),
     RemoveDir(&'static str),
     /// From one name to another.
@@ -45,6 +47,9 @@ pub fn is_ask(call: Call<'_>, ask: Ask) -> bool {
             is_at(path, name) && text == bytes
         }
         (Call::ReadLink(path), Ask::ReadLink(name)) => is_at(path, name),
+        (Call::Link { from, to }, Ask::Link(source, target)) => {
+            is_at(from, source) && is_at(to, target)
+        }
         (Call::Remove(path), Ask::Remove(name)) => is_at(path, name),
         (Call::RemoveDir(path), Ask::RemoveDir(name)) => is_at(path, name),
         (Call::Rename { from, to }, Ask::Rename(source, target)) => {

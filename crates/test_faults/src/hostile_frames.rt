@@ -3,7 +3,9 @@
 use crate::frames::{ENTRY_A, ENTRY_E, LOOKUP_A, LOOKUP_E, OPEN_A, OPENED};
 use crate::hostile::Frame::{self, Filled, Whole};
 use crate::hostile::Row;
-use crate::hostile_links::{LAWLESS_LINKS, LINKS_NOT_SHOWN, LONGEST_LINK};
+use crate::hostile_links::{
+    HARD_LINKS_NOT_SERVED, LAWLESS_HARD_LINKS, LAWLESS_LINKS, LINKS_NOT_SHOWN, LONGEST_LINK,
+};
 use ledger::Posting;
 use terms::Kinds;
 
@@ -242,5 +244,7 @@ pub const ROWS: &[Row] = &[
     FORGETS,
     LAWLESS_LINKS,
     LINKS_NOT_SHOWN,
+    LAWLESS_HARD_LINKS,
+    HARD_LINKS_NOT_SERVED,
     LONGEST_LINK,
 ];

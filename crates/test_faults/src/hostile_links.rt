@@ -1,4 +1,4 @@
-//! Invalid requests of symbolic links, where links are shown and where they are not.
+//! Invalid requests of links, where links are shown and where they are not.
 
 use crate::hostile::Frame::{self, Filled, Whole};
 use crate::hostile::Row;
@@ -46,7 +46,63 @@ const UNLAWFUL: &[Frame] = &[
     ),
 ];
 
-/// EINVAL, ESTALE, ENAMETOOLONG, ENOENT and ENOSYS for unique 7.
+/// LINK without a body, with seven bytes of one, without a name, without a zero byte behind the name, with two of them,
+/// with an empty name, with `..`, and with a name of 256 bytes; LINK of the root to `l` and to `.fuse_hiddenx`, and of
+/// node 9, which there is not, to `.fuse_hiddenx` and to `l`.
+const UNLAWFUL_NAMES: &[Frame] = &[
+    Whole(
+        "28000000 0d000000 0700000000000000 0100000000000000 00000000 00000000 00000000 00000000",
+    ),
+    Whole(
+        "2f000000 0d000000 0700000000000000 0100000000000000 00000000 00000000 00000000 00000000 \
+        02000000000000",
+    ),
+    Whole(
+        "30000000 0d000000 0700000000000000 0100000000000000 00000000 00000000 00000000 00000000 \
+        0200000000000000",
+    ),
+    Whole(
+        "31000000 0d000000 0700000000000000 0100000000000000 00000000 00000000 00000000 00000000 \
+        0200000000000000 6c",
+    ),
+    Whole(
+        "33000000 0d000000 0700000000000000 0100000000000000 00000000 00000000 00000000 00000000 \
+        0200000000000000 6c0000",
+    ),
+    Whole(
+        "31000000 0d000000 0700000000000000 0100000000000000 00000000 00000000 00000000 00000000 \
+        0200000000000000 00",
+    ),
+    Whole(
+        "33000000 0d000000 0700000000000000 0100000000000000 00000000 00000000 00000000 00000000 \
+        0200000000000000 2e2e00",
+    ),
+    Filled(
+        "31010000 0d000000 0700000000000000 0100000000000000 00000000 00000000 00000000 00000000 \
+        0200000000000000",
+        b'n',
+        256,
+        "00",
+    ),
+    Whole(
+        "32000000 0d000000 0700000000000000 0100000000000000 00000000 00000000 00000000 00000000 \
+        0100000000000000 6c00",
+    ),
+    Whole(
+        "3e000000 0d000000 0700000000000000 0100000000000000 00000000 00000000 00000000 00000000 \
+        0100000000000000 2e667573655f68696464656e7800",
+    ),
+    Whole(
+        "3e000000 0d000000 0700000000000000 0100000000000000 00000000 00000000 00000000 00000000 \
+        0900000000000000 2e667573655f68696464656e7800",
+    ),
+    Whole(
+        "32000000 0d000000 0700000000000000 0100000000000000 00000000 00000000 00000000 00000000 \
+        0900000000000000 6c00",
+    ),
+];
+
+/// EINVAL, ESTALE, ENAMETOOLONG, ENOENT, EPERM and ENOSYS for unique 7.
 const INVALID: &str = "10000000 eaffffff 0700000000000000";
 
 const STALE: &str = "10000000 8cffffff 0700000000000000";
@@ -54,6 +110,8 @@ const STALE: &str = "10000000 8cffffff 0700000000000000";
 const TOO_LONG: &str = "10000000 dcffffff 0700000000000000";
 
 const ABSENT: &str = "10000000 feffffff 0700000000000000";
+
+const NOT_ALLOWED: &str = "10000000 ffffffff 0700000000000000";
 
 const UNSERVED: &str = "10000000 daffffff 0700000000000000";
 
@@ -74,6 +132,38 @@ pub const LINKS_NOT_SHOWN: Row = Row {
     replies: &[
         UNSERVED, UNSERVED, UNSERVED, UNSERVED, UNSERVED, UNSERVED, UNSERVED, UNSERVED, UNSERVED,
         UNSERVED,
+    ],
+    ledger: &[],
+};
+
+pub const LAWLESS_HARD_LINKS: Row = Row {
+    says: "lawless hard links",
+    kinds: Kinds::All,
+    frames: UNLAWFUL_NAMES,
+    replies: &[
+        INVALID,
+        INVALID,
+        INVALID,
+        INVALID,
+        INVALID,
+        INVALID,
+        INVALID,
+        TOO_LONG,
+        NOT_ALLOWED,
+        NOT_ALLOWED,
+        NOT_ALLOWED,
+        STALE,
+    ],
+    ledger: &[],
+};
+
+pub const HARD_LINKS_NOT_SERVED: Row = Row {
+    says: "hard links that are not served",
+    kinds: Kinds::Plain,
+    frames: UNLAWFUL_NAMES,
+    replies: &[
+        UNSERVED, UNSERVED, UNSERVED, UNSERVED, UNSERVED, UNSERVED, UNSERVED, UNSERVED, UNSERVED,
+        UNSERVED, UNSERVED, UNSERVED,
     ],
     ledger: &[],
 };

@@ -1,7 +1,7 @@
 //! A tree with names only in its root, as a plain list.
 
 use crate::asks::Ask;
-use errno::{EEXIST, EFBIG, EINVAL, EISDIR, ENOENT, ENOTDIR};
+use errno::{EEXIST, EFBIG, EINVAL, EISDIR, ENOENT, ENOTDIR, EPERM};
 use payload::Kind;
 use std::alloc::{AllocError, Global};
 
@@ -200,6 +200,15 @@ fn read_link(items: &[Item], name: &str) -> Told {
     }
 }
 
+/// The tree gives nothing a further name.
+fn link(items: &[Item], from: &str, to: &str) -> Told {
+    match (stat(items, from), stat(items, to)) {
+        (Told::Error(errno), _) => Told::Error(errno),
+        (_, Told::Error(_)) => Told::Error(EPERM),
+        (_, _) => Told::Error(EEXIST),
+    }
+}
+
 /// Does the call. LIST and READLINK do nothing: their names and their text are those of the items.
 pub fn work(items: &mut Vec<Item>, ask: Ask) -> Result<Told, AllocError> {
     Ok(match ask {
@@ -208,6 +217,7 @@ pub fn work(items: &mut Vec<Item>, ask: Ask) -> Result<Told, AllocError> {
         Ask::MakeDir(name) => make(items, name, Kind::Folder, b"")?,
         Ask::MakeLink(name, text) => make(items, name, Kind::Link, text)?,
         Ask::ReadLink(name) => read_link(items, name),
+        Ask::Link(from, to) => link(items, from, to),
         Ask::Remove(name) => remove(items, name),
         Ask::RemoveDir(name) => remove_folder(items, name),
         Ask::Rename(from, to) => rename(items, from, to),

@@ -88,6 +88,18 @@ impl World {
         }
     }
 
+    /// LINK. No tree of the session gives a file a further name.
+    pub fn link(&mut self, number: u64, name: &'static str) -> Result<Answer, AllocError> {
+        let alloc = self.alloc;
+        let Some(old) = self.name_of(number) else {
+            return Ok(failed(alloc, ESTALE));
+        };
+        match self.ask(Ask::Link(old, name))? {
+            Told::Error(errno) => Ok(failed(alloc, errno)),
+            _ => self.lookup(name),
+        }
+    }
+
     /// OPEN for reading and writing.
     pub fn open(&mut self, number: u64) -> Result<Answer, AllocError> {
         let alloc = self.alloc;

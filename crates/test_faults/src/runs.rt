@@ -21,9 +21,9 @@ use tree::Place;
 use wire::{Request, encode_request};
 
 /// How many calls of the tree and how many replies the session has.
-const CALLS: usize = 18;
+const CALLS: usize = 19;
 
-const REPLIES: u32 = 16;
+const REPLIES: u32 = 17;
 
 /// The replies if nothing fails, one after another.
 fn replies_of(alloc: Global) -> Result<Vec<u8>, Fail> {
@@ -152,7 +152,7 @@ fn failed_hiding(rt: HostRuntime) -> Result<(), Fail> {
         ..PLAIN
     };
     let replies = replies_of_failed_hiding(alloc)?;
-    let due = &ASKS[..17];
+    let due = &ASKS[..18];
     let mut ran = serve_session::<HostRuntime, Brand>(&rt, alloc, Blanks::new(1), &plan, due)?;
     let told = tell_hiding(alloc, &mut ran, &replies)?;
     assert_eq!(rt; told, (true, true, true));
@@ -180,7 +180,7 @@ fn failed_removal(rt: HostRuntime) -> Result<(), Fail> {
     let alloc = rt.alloc();
     let plan = Plan {
         fault: Some(FaultAt {
-            call: 18,
+            call: 19,
             fault: PlannedFault::Before(EIO),
         }),
         ..PLAIN
@@ -238,22 +238,22 @@ fn failing_replies(alloc: Global) -> Result<Vec<Plan>, AllocError> {
     Ok(plans)
 }
 
-// 36 runs, each compared with the slow program's.
+// 38 runs, each compared with the slow program's.
 #[test]
 fn each_call_fails(rt: HostRuntime) -> Result<(), Fail> {
     let plans = failing_calls(rt.alloc())?;
-    assert_eq!(rt; plans.len(), 36);
+    assert_eq!(rt; plans.len(), 38);
     for plan in &plans {
         compare::<HostRuntime, Brand>(&rt, rt.alloc(), Blanks::new(1), plan)?;
     }
     Ok(())
 }
 
-// 32 runs, each compared with the slow program's.
+// 34 runs, each compared with the slow program's.
 #[test]
 fn each_reply_fails(rt: HostRuntime) -> Result<(), Fail> {
     let plans = failing_replies(rt.alloc())?;
-    assert_eq!(rt; plans.len(), 32);
+    assert_eq!(rt; plans.len(), 34);
     for plan in &plans {
         compare::<HostRuntime, Brand>(&rt, rt.alloc(), Blanks::new(1), plan)?;
     }

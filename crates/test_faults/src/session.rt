@@ -66,6 +66,13 @@ pub const REQUESTS: &[(u64, Operation<'static>)] = &[
             size: 4096,
         },
     ),
+    (
+        1,
+        Operation::Link {
+            old_node: 3,
+            name: "h",
+        },
+    ),
     (2, Operation::Release { fh: 1 }),
     (1, Operation::ReleaseDir { fh: 1 }),
     (0, Operation::Destroy),
@@ -90,6 +97,7 @@ pub const ASKS: &[Ask] = &[
     Ask::Stat("b"),
     Ask::Stat("d"),
     Ask::Stat("l"),
+    Ask::Link("b", "h"),
     Ask::Remove(HIDDEN),
 ];
 
@@ -152,6 +160,7 @@ pub const STANDS: &[(&str, Told)] = &[
     ("d", Told::Folder),
     ("l", Told::Link(3)),
     ("e", Told::Error(2)),
+    ("h", Told::Error(2)),
     ("m", Told::Error(2)),
     (HIDDEN, Told::Error(2)),
 ];

@@ -64,11 +64,11 @@ impl World {
             Operation::Unlink { name } => self.unlink(name),
             Operation::Rename { name, new_name, .. } => self.rename(name, new_name),
             Operation::MakeDir { name, .. } => self.make_folder(name),
-            Operation::MakeLink { .. } | Operation::ReadLink if self.kinds == Kinds::Plain => {
-                Ok(failed(self.alloc, ENOSYS))
-            }
+            Operation::MakeLink { .. } | Operation::ReadLink | Operation::Link { .. }
+                if self.kinds == Kinds::Plain => { Ok(failed(self.alloc, ENOSYS)) }
             Operation::MakeLink { name, text } => self.make_link(name, text),
             Operation::ReadLink => self.read_link(node),
+            Operation::Link { old_node, name } => self.link(old_node, name),
             Operation::RemoveDir { name } => self.remove(name, Ask::RemoveDir(name)),
             Operation::OpenDir => self.open_folder(),
             Operation::ReadDirPlus { fh, .. } => self.read_entries(node, fh),

@@ -36,6 +36,8 @@ pub enum Ask {
     MakeDir(Option<u32>),
     /// With a text of that many bytes.
     MakeLink(usize),
+    /// From the path at one index to that at another.
+    Link(usize, usize),
     Remove,
     RemoveDir,
     /// From the path at one index to that at another.
@@ -167,6 +169,7 @@ pub fn ask_of(call: Call<'_>, paths: &[Path]) -> Ask {
         Call::ReadLink(path) if path.is(first) => Ask::ReadLink,
         Call::Write { path, offset, data } if path.is(first) => Ask::Write(offset, data.len()),
         Call::Sync(path) if path.is(first) => Ask::Sync,
+        Call::Link { from, to } => Ask::Link(place_of(from, paths), place_of(to, paths)),
         Call::Rename { from, to } => Ask::Rename(place_of(from, paths), place_of(to, paths)),
         Call::RenameNew { from, to } => Ask::RenameNew(place_of(from, paths), place_of(to, paths)),
         Call::Exchange { first, second } => {

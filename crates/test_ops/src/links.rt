@@ -1,10 +1,10 @@
-//! What READLINK and SYMLINK begin with, and what faults are told, by the kinds of files that are shown.
+//! What READLINK, SYMLINK and LINK begin with, and what faults are told, by the kinds of files that are shown.
 
 use crate::setting::{FIXED, HOST};
 use errno::{EINVAL, ENAMETOOLONG, ENOENT, ENOSYS, EPERM};
 use ops::{Intent, Settings, Wanted, intent_of, refusal_errno};
 use std::test::Fail;
-use wire::{LOOKUP, Operation, READLINK, ReplyBody, Request, SYMLINK, WireFault};
+use wire::{LINK, LOOKUP, Operation, READLINK, ReplyBody, Request, SYMLINK, WireFault};
 
 /// Texts are the first bytes of these.
 const BYTES: [u8; 5000] = [b'/'; 5000];
@@ -18,9 +18,11 @@ enum Begins {
     Node,
     /// With a name in it.
     Name,
+    /// With node 3, and a name in it.
+    Further,
 }
 
-use Begins::{Name, Node, Refused};
+use Begins::{Further, Name, Node, Refused};
 
 /// By settings, the name of the link, and how many bytes its text has.
 const MADE: &[(Settings, &str, usize, Begins)] = &[
@@ -54,6 +56,13 @@ fn begins_with(settings: Settings, operation: Operation<'_>) -> Option<Begins> {
             },
         ) => Some(Node),
         Intent::Want(Wanted::Name { parent: 5, .. }) => Some(Name),
+        Intent::Want(
+            Wanted::Link {
+                number: 3,
+                parent: 5,
+                name: "a",
+            },
+        ) => Some(Further),
         _ => None,
     }
 }
@@ -79,6 +88,33 @@ fn whether_links_are_read(rt: HostRuntime) -> Result<(), Fail> {
     Ok(())
 }
 
+/// By settings, the old node and the new name.
+const LINKED: &[(Settings, u64, &str, Begins)] = &[
+    (HOST, 3, "a", Further),
+    // The root is a folder.
+    (HOST, 1, "a", Refused(EPERM)),
+    (HOST, 3, ".fuse_hidden1", Refused(EPERM)),
+    (HOST, 1, ".fuse_hidden1", Refused(EPERM)),
+    // Where no link is shown, nothing else is said.
+    (FIXED, 3, "a", Refused(ENOSYS)),
+    (FIXED, 1, "a", Refused(ENOSYS)),
+    (FIXED, 3, ".fuse_hidden1", Refused(ENOSYS)),
+];
+
+#[test]
+fn what_gets_a_further_name(rt: HostRuntime) -> Result<(), Fail> {
+    for (settings, old_node, name, begins) in LINKED {
+        let operation = Operation::Link {
+            old_node: *old_node,
+            name,
+        };
+        if begins_with(*settings, operation) != Some(*begins) {
+            return Err(Fail::from(("begins otherwise", *old_node)));
+        }
+    }
+    Ok(())
+}
+
 /// By settings, opcode and fault.
 const FAULTS: &[(Settings, u32, WireFault, i32)] = &[
     // An opcode that is not served is told in place of what is wrong with its body.
@@ -86,14 +122,22 @@ const FAULTS: &[(Settings, u32, WireFault, i32)] = &[
     (FIXED, SYMLINK, WireFault::NameLong, ENOSYS),
     (FIXED, SYMLINK, WireFault::NameBad, ENOSYS),
     (FIXED, READLINK, WireFault::Body, ENOSYS),
+    (FIXED, LINK, WireFault::Body, ENOSYS),
+    (FIXED, LINK, WireFault::NameLong, ENOSYS),
+    (FIXED, LINK, WireFault::NameBad, ENOSYS),
     // The frame was tested first.
     (FIXED, SYMLINK, WireFault::Frame, EINVAL),
     (FIXED, READLINK, WireFault::Frame, EINVAL),
+    (FIXED, LINK, WireFault::Frame, EINVAL),
     // One that is served.
     (HOST, SYMLINK, WireFault::Body, EINVAL),
     (HOST, SYMLINK, WireFault::NameLong, ENAMETOOLONG),
     (HOST, SYMLINK, WireFault::NameBad, EINVAL),
     (HOST, SYMLINK, WireFault::Frame, EINVAL),
+    (HOST, LINK, WireFault::Body, EINVAL),
+    (HOST, LINK, WireFault::NameLong, ENAMETOOLONG),
+    (HOST, LINK, WireFault::NameBad, EINVAL),
+    (HOST, LINK, WireFault::Frame, EINVAL),
     (FIXED, LOOKUP, WireFault::NameLong, ENAMETOOLONG),
     (FIXED, LOOKUP, WireFault::NameBad, EINVAL),
     (FIXED, LOOKUP, WireFault::Body, EINVAL),

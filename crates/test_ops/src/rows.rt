@@ -9,8 +9,8 @@ use std::test::Fail;
 use table::Seeds;
 use terms::{AttributeSource, Kinds};
 use wire::Operation::{
-    self, Create, GetAttr, Lookup, MakeDir, MakeLink, Open, OpenDir, Read, ReadDirPlus, ReadLink,
-    Release, RemoveDir, Rename, Rename2, Sync, Unlink, Write,
+    self, Create, GetAttr, Link, Lookup, MakeDir, MakeLink, Open, OpenDir, Read, ReadDirPlus,
+    ReadLink, Release, RemoveDir, Rename, Rename2, Sync, Unlink, Write,
 };
 
 /// Requests for the root, which is open as file 1, or for a name in it. Some have several scripts.
@@ -141,6 +141,16 @@ const CLOSED: Row = Row {
     ..REMOVED
 };
 
+/// A further name for the file.
+const LINKED: Row = Row {
+    operation: Link {
+        old_node: 2,
+        name: "e",
+    },
+    form: PLAIN,
+    ..REMOVED
+};
+
 /// Requests when a file is open, or hidden.
 const ROWS: &[Row] = &[
     REMOVED,
@@ -231,6 +241,11 @@ const ROWS: &[Row] = &[
         },
         form: PLAIN,
         ..REMOVED
+    },
+    LINKED,
+    Row {
+        before: Before::Hidden,
+        ..LINKED
     },
     CLOSED,
     Row {

@@ -38,6 +38,7 @@ fn asks_of(settings: Settings, operation: Operation<'_>, same: bool) -> (Option<
         Operation::Read { offset, size, .. } => (Some(Ask::Read(offset, size)), None),
         Operation::ReadLink => (Some(Ask::ReadLink), None),
         Operation::MakeLink { text, .. } => (Some(Ask::MakeLink(text.len())), Some(Ask::Stat(0))),
+        Operation::Link { .. } => (Some(Ask::Link(0, 1)), Some(Ask::Stat(1))),
         Operation::Write { offset, data, .. } => (Some(Ask::Write(offset, data.len())), None),
         Operation::Sync { .. } => (Some(Ask::Sync), None),
         Operation::OpenDir => (Some(Ask::List), None),
@@ -98,7 +99,10 @@ fn counts_as(ask: Ask, answer: &Answer) -> Counts {
 fn ends_with(operation: Operation<'_>, last: Counts) -> Ends {
     match (operation, last) {
         (
-            Operation::Lookup { .. } | Operation::MakeDir { .. } | Operation::MakeLink { .. },
+            Operation::Lookup { .. }
+            | Operation::MakeDir { .. }
+            | Operation::MakeLink { .. }
+            | Operation::Link { .. },
             Counts::Found(found),
         ) => Ends::NewEntry(found),
         (Operation::Create { .. }, Counts::Found(found)) => Ends::NewFile(found),

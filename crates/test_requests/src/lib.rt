@@ -20,6 +20,8 @@ mod file_handles;
 #[cfg(test)]
 mod folders;
 #[cfg(test)]
+mod hard_links;
+#[cfg(test)]
 mod hidden_files;
 #[cfg(test)]
 mod host_sets;

@@ -48,8 +48,7 @@ const ASKS: &[&str] = &[
     DESTROY,
 ];
 
-/// The expected replies: `.` is a digit that depends on the host, `i` is a digit of the inode number of `n`, and `o` is
-/// a digit of the numbers of its owner and group.
+/// The expected replies, with letters for digits that the host has chosen (`are_told`); the file is `n`.
 const TOLD: &[&str] = &[
     AGREED,
     // Node 2, an empty file, and the first handle.
@@ -92,16 +91,16 @@ const TOLD: &[&str] = &[
     DESTROYED,
 ];
 
-/// Digits of numbers, eight bytes each, that the system reports for `n`.
+/// Digits of numbers, eight bytes each, that the system reports for a file.
 #[derive(Drop)]
-struct Known {
+pub struct Known {
     ino: String,
     /// Its owner and its group.
     owner: String,
 }
 
-fn known_of(rt: &impl Host, root: &str) -> io::Result<Known> {
-    let place = place_of(rt.alloc(), root, "n")?;
+pub fn known_of(rt: &impl Host, root: &str, name: &str) -> io::Result<Known> {
+    let place = place_of(rt.alloc(), root, name)?;
     let found = fs::metadata(rt, place.as_str())?;
     let [a, b, c, d] = found.uid().to_le_bytes();
     let [e, f, g, h] = found.gid().to_le_bytes();
@@ -116,8 +115,9 @@ fn known_at(digits: &str, number: usize) -> Option<u8> {
     digits.as_bytes().get(number % 16).copied()
 }
 
-/// Whether these are the expected digits.
-fn are_told(digits: &str, told: &[&str], known: &Known) -> bool {
+/// Whether these are the expected digits. In what is expected, `.` is a digit that depends on the host, `i` is a digit of
+/// the file's inode number, and `o` is a digit of the numbers of its owner and group.
+pub fn are_told(digits: &str, told: &[&str], known: &Known) -> bool {
     let (mut at, mut inos, mut owners) = (0usize, 0usize, 0usize);
     for piece in told {
         for wanted in piece.as_bytes() {
@@ -152,7 +152,7 @@ fn told_in(rt: &impl Host, host: &HostRuntime, root: &str) -> Result<(u8, bool, 
     let words = ["mirrord", "pipe", "--root", root, "--attributes", "host"];
     let out = run_words(rt, host, &words, ASKS, Vec::new(rt.alloc()))?;
     let digits = hex::encode(rt.alloc(), out.output.as_slice())?;
-    let known = known_of(rt, root)?;
+    let known = known_of(rt, root, "n")?;
     let is_told = are_told(&digits, TOLD, &known);
     Ok((out.status, is_told, out.faults.is_empty()))
 }

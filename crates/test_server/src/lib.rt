@@ -9,6 +9,8 @@ mod devices;
 #[cfg(test)]
 mod frames;
 #[cfg(test)]
+mod hard_links;
+#[cfg(test)]
 mod host;
 #[cfg(test)]
 mod host_attributes;

@@ -10,10 +10,10 @@ use std::test::Fail;
 use std::{fs, io};
 
 /// LOOKUP `s` in the root, unique 7, and its entry: node 2, a link of one byte, of user 1000 and group 100.
-const LOOKUP_S: &str =
+pub const LOOKUP_S: &str =
     "2a000000 01000000 0700000000000000 0100000000000000 00000000 00000000 00000000 00000000 7300";
 
-const ENTRY_S: &str = "90000000 00000000 0700000000000000 \
+pub const ENTRY_S: &str = "90000000 00000000 0700000000000000 \
     0200000000000000 0000000000000000 0100000000000000 0100000000000000 00000000 00000000 \
     0200000000000000 0100000000000000 0100000000000000 \
     0000000000000000 0000000000000000 0000000000000000 00000000 00000000 00000000 \
@@ -54,7 +54,7 @@ const UNLINK_S: &str =
 const UNLINKED: &str = "10000000 00000000 0400000000000000";
 
 /// A new folder with the file `a` and the link `s` to it.
-fn linked_folder(rt: &HostRuntime, name: &str) -> io::Result<String> {
+pub fn linked_folder(rt: &HostRuntime, name: &str) -> io::Result<String> {
     let root = new_folder(rt, name)?;
     let place = place_of(rt.alloc(), root.as_str(), "s")?;
     symlink(rt, "a", place.as_str())?;
@@ -62,14 +62,14 @@ fn linked_folder(rt: &HostRuntime, name: &str) -> io::Result<String> {
 }
 
 /// Whether a link is at the name.
-fn is_link(rt: &impl Host, root: &str, name: &str) -> io::Result<bool> {
+pub fn is_link(rt: &impl Host, root: &str, name: &str) -> io::Result<bool> {
     let place = place_of(rt.alloc(), root, name)?;
     let found = fs::symlink_metadata(rt, place.as_str())?;
     Ok(found.file_type().is_symlink())
 }
 
 /// Runs `pipe` on that folder, and fails if the replies are not these.
-fn tell(
+pub fn tell(
     rt: &impl Host,
     host: &HostRuntime,
     root: &str,

@@ -78,10 +78,11 @@ fn refused(asks: Asks, errno: i32) -> Option<Event> {
         (EBADF, Asks::Release(..)) => Some(Event::BadRelease),
         (ESTALE, Asks::Release(..)) => None,
         (ESTALE, Asks::Node(_) | Asks::Read(..) | Asks::Open(_)) => Some(Event::StaleNode),
+        (ESTALE, Asks::Link(..)) => Some(Event::StaleLink),
         (ESTALE, _) => Some(Event::StaleName),
         (EINVAL | ENOTEMPTY, Asks::Move(..) | Asks::Keep(..)) => Some(Event::Astray),
         (EINVAL, Asks::Exchange(..)) => Some(Event::Entangled),
-        (ENFILE, Asks::Name(..) | Asks::Create(..)) => Some(Event::Full),
+        (ENFILE, Asks::Name(..) | Asks::Create(..) | Asks::Link(..)) => Some(Event::Full),
         (ENFILE, Asks::Page(..)) => Some(Event::FullPage),
         (ENFILE, Asks::Open(..)) => Some(Event::FullFiles),
         (EAGAIN, _) => Some(Event::Crowded),
@@ -100,6 +101,7 @@ fn waits(asks: Asks) -> Event {
         Asks::Page(..) => Event::BusyPage,
         Asks::Open(_) => Event::BusyOpen,
         Asks::Release(..) => Event::BusyRelease,
+        Asks::Link(..) => Event::BusyLink,
     }
 }
 

@@ -160,7 +160,14 @@ impl Draws {
         }
     }
 
-    /// A request that changes names, for a choice of 8 to 20, or from 38 on.
+    /// A further name, which may be that of a living node.
+    fn link<'a>(&mut self, image: &'a Image) -> Asks<'a> {
+        let number = self.plain(image);
+        let (parent, name) = self.source(image);
+        Asks::Link(number, parent, name)
+    }
+
+    /// A request that changes names, for a choice of 8 to 20, or of 38 to 42.
     fn change<'a>(&mut self, choice: u64, image: &'a Image) -> Asks<'a> {
         match choice {
             8..=13 => self.removal(image),
@@ -196,9 +203,10 @@ impl Draws {
 
     /// What a request asks for.
     pub fn asks<'a>(&mut self, image: &'a Image) -> Asks<'a> {
-        let choice = self.among(42);
+        let choice = self.among(47);
         match choice {
-            8..=20 | 38.. => self.change(choice, image),
+            8..=20 | 38..=42 => self.change(choice, image),
+            43.. => self.link(image),
             _ => self.use_of(choice, image),
         }
     }
@@ -259,7 +267,9 @@ impl Draws {
             Task::Page(names) => self.page_end(draw, names),
             Task::Removal { hides } => self.removal_end(draw, hides),
             Task::Move { hides, .. } => self.move_end(draw, hides),
-            Task::Name | Task::Create => Draws::plain_end(draw, Outcome::Entry, Outcome::Done),
+            Task::Name | Task::Create | Task::Link => {
+                Draws::plain_end(draw, Outcome::Entry, Outcome::Done)
+            }
             Task::Node | Task::Open | Task::Exchange { .. } | Task::Release { .. } => {
                 Draws::plain_end(draw, Outcome::Done, Outcome::Entry)
             }

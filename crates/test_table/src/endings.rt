@@ -47,6 +47,22 @@ fn created(outcome: Outcome, told: Told, change: Change) -> Option<Event> {
     }
 }
 
+/// The result of ending a LINK.
+fn linked(outcome: Outcome, told: Told, change: Change) -> Option<Event> {
+    match (outcome, told) {
+        (Outcome::Entry, Told::Given(_, generation)) => {
+            let entry = given(generation, change)?;
+            Some(if entry == Event::Entry {
+                Event::LinkedAgain
+            } else {
+                Event::Linked
+            })
+        }
+        (Outcome::Failed | Outcome::Done, Told::NotGiven) => still(change, Event::FailedLink),
+        _ => None,
+    }
+}
+
 /// How many entries a finish reported.
 pub fn entries_of(told: Told) -> u64 {
     match told {
@@ -215,6 +231,7 @@ pub fn finished(task: Task, outcome: Outcome, told: Told, change: Change) -> Opt
     match task {
         Task::Name => named(outcome, told, change),
         Task::Create => created(outcome, told, change),
+        Task::Link => linked(outcome, told, change),
         Task::Page(names) => paged(names, outcome, told, change),
         _ if told != Told::Ended => None,
         Task::Node => still(change, Event::Node),

@@ -15,6 +15,7 @@ pub enum Event {
     BusyPage,
     BusyOpen,
     BusyRelease,
+    BusyLink,
     /// One path of a move is a prefix of the other.
     Astray,
     /// The same for two names that were to be exchanged.
@@ -28,6 +29,8 @@ pub enum Event {
     Crowded,
     StaleNode,
     StaleName,
+    /// The node of a LINK, or its parent, has no name.
+    StaleLink,
     /// The handle is not that of an open file of the node, or not open for reading.
     BadHandle,
     /// The same for a handle that is to be closed.
@@ -58,6 +61,11 @@ pub enum Event {
     /// An entry, and a file of it is opened.
     Created,
     FailedCreate,
+    /// A further name gets a node of its own.
+    Linked,
+    /// The same, but the name has a node already, on which a lookup is counted.
+    LinkedAgain,
+    FailedLink,
     /// Entries of a page.
     Page,
     /// The same, with a birth.

@@ -36,6 +36,8 @@ mod least;
 #[cfg(test)]
 mod limit_rows;
 #[cfg(test)]
+mod link_rows;
+#[cfg(test)]
 mod long_rows;
 #[cfg(test)]
 mod long_run;

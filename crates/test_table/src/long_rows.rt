@@ -1,8 +1,8 @@
 //! Paths of the maximum length, which is 4,096 bytes, counting one more byte for each name.
 
-use crate::story::Asks::{Move, Name, Node, Remove};
-use crate::story::Told::{Given, Go, Refused};
-use crate::story::{DEFAULT, ROOT, Step, Story, Sum};
+use crate::story::Asks::{Link, Move, Name, Node, Remove};
+use crate::story::Told::{Ended, Given, Go, NotGiven, Refused, Settled};
+use crate::story::{DEFAULT, Outcome, ROOT, Reply, Step, Story, Sum};
 use crate::teller::run;
 use errno::{ENAMETOOLONG, ESTALE};
 use std::alloc::{AllocError, Global};
@@ -73,6 +73,37 @@ fn longest_names(rt: HostRuntime) -> Result<(), Fail> {
         limits: DEFAULT,
         steps: steps.as_slice(),
         gathers: Sum::All(3, 3, 0, 0),
+    };
+    run(&rt, &story)
+}
+
+/// For a LINK both paths are tested: that of its name, and that of its node, which gets too long when the folder `d` is
+/// moved to a longer name.
+#[test]
+fn long_paths_of_links(rt: HostRuntime) -> Result<(), Fail> {
+    let name = long_name(rt.alloc(), 4_096)?;
+    let long = name.as_str();
+    let (fits, below, above) = (first(long, 4_095), first(long, 4_093), first(long, 4_094));
+    let steps = [
+        Step::LookUp(ROOT, "d", Given(2, 0)),
+        Step::LookUp(2, below, Given(3, 0)),
+        Step::Begin(1, Link(2, ROOT, long), Refused(ENAMETOOLONG)),
+        Step::Begin(1, Link(2, 2, above), Refused(ENAMETOOLONG)),
+        Step::Begin(1, Link(9, 2, above), Refused(ESTALE)),
+        Step::Begin(1, Link(3, ROOT, fits), Go),
+        Step::Finish(1, Outcome::Failed, NotGiven),
+        Step::Settle(1, Reply::Taken, Settled(0)),
+        Step::Begin(2, Move(ROOT, "d", ROOT, "dd"), Go),
+        Step::Finish(2, Outcome::Done, Ended),
+        Step::Settle(2, Reply::Taken, Settled(0)),
+        Step::Begin(3, Link(3, ROOT, "a"), Refused(ENAMETOOLONG)),
+        Step::Begin(3, Link(3, 9, "a"), Refused(ESTALE)),
+        Step::Begin(3, Link(2, ROOT, "a"), Go),
+    ];
+    let story = Story {
+        limits: DEFAULT,
+        steps: steps.as_slice(),
+        gathers: Sum::All(2, 2, 0, 0),
     };
     run(&rt, &story)
 }

@@ -1,6 +1,6 @@
 //! Runs: calls on what is pending, where a ticket or an answer is given by its index.
 
-use crate::story::Asks::{Name, Page, Remove};
+use crate::story::Asks::{Link, Name, Page, Remove};
 use crate::story::Posted::{Back, Born, Entry, Forget};
 use crate::story::Spot::At;
 use crate::story::Told::{Amount, Busy, Ended, Gave, Given, Go, Nothing, Refused, Settled};
@@ -26,8 +26,8 @@ enum Made<'a> {
     ClosePeriod,
 }
 
-/// `b` is given first, then `c` is removed, then `a` is given, and last a page with `a` and `d`. If nothing is pending,
-/// nothing is done.
+/// `b` is given first, then `c` is removed, then `a` is given, then a page with `a` and `d`, and last `e`, a further name
+/// of `a`. If nothing is pending, nothing is done.
 const CALLS: &[(Made, Told)] = &[
     (Made::Begin(1, Name(ROOT, "a")), Go),
     (Made::Begin(2, Name(ROOT, "b")), Go),
@@ -46,6 +46,9 @@ const CALLS: &[(Made, Told)] = &[
     (Made::Begin(5, Page(ROOT, &["a", "d"])), Go),
     (Made::Finish(0, Outcome::Entries(&[true, true])), Gave(2)),
     (Made::Settle(1, Reply::Taken), Settled(2)),
+    (Made::Begin(6, Link(3, ROOT, "e")), Go),
+    (Made::Finish(0, Outcome::Entry), Given(4, 0)),
+    (Made::Settle(1, Reply::Taken), Settled(1)),
 ];
 
 /// The table after these calls. One answer is pending, that of the first request.
@@ -54,6 +57,7 @@ const AFTER: &[Step] = &[
         TOP,
         Living(3, 0, At(ROOT, "a"), 1),
         Living(2, 1, At(ROOT, "d"), 1),
+        Living(4, 0, At(ROOT, "e"), 1),
     ]),
     Step::Ledger(&[
         Born(2, 0),
@@ -65,6 +69,8 @@ const AFTER: &[Step] = &[
         Entry(3, 0),
         Born(2, 1),
         Entry(2, 1),
+        Born(4, 0),
+        Entry(4, 0),
     ]),
     Step::Requests(&[Flying(1, Answered, &[1, 3])]),
 ];
@@ -204,7 +210,7 @@ impl Play for Calls {
 
 fn make<R: RandomSource + AllocGlobal>(rt: &R, at_once: bool) -> Result<(), Fail> {
     let sum = play_new(rt, DEFAULT, &mut Calls { at_once })?;
-    if sum != Sum::All(3, 4, 1, 1) {
+    if sum != Sum::All(4, 5, 1, 1) {
         return Err(misgathered(sum));
     }
     Ok(())

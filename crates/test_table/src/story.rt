@@ -66,6 +66,8 @@ pub enum Asks<'a> {
     Create(u64, &'a str),
     /// Closing a handle of a node.
     Release(u64, u64),
+    /// Giving the file of a node a further name under a parent.
+    Link(u64, u64, &'a str),
 }
 
 /// The outcome of a request.

@@ -10,6 +10,7 @@ pub enum Task {
     Node,
     Name,
     Create,
+    Link,
     /// The number of names.
     Page(usize),
     Open,
@@ -41,6 +42,7 @@ impl Task {
             Asks::Node(_) | Asks::Read(..) => Task::Node,
             Asks::Name(..) => Task::Name,
             Asks::Create(..) => Task::Create,
+            Asks::Link(..) => Task::Link,
             Asks::Page(_, names) => Task::Page(names.len()),
             Asks::Open(_) => Task::Open,
             Asks::Remove(..) | Asks::Unlink(..) => Task::Removal { hides },

@@ -101,6 +101,11 @@ pub fn want_of(alloc: Global, asks: Asks) -> Result<Want, AllocError> {
             access: Access::Writing,
         },
         Asks::Release(number, fh) => Want::Release { number, fh },
+        Asks::Link(number, parent, name) => Want::Link {
+            number,
+            parent,
+            name: Name::copy_of(alloc, name)?,
+        },
     })
 }
 

@@ -69,6 +69,8 @@ pub enum Ask {
     Create(u64, Word, Access),
     /// Closing a handle of a node.
     Release(u64, u64),
+    /// Giving the file of a node a further name under a parent.
+    Link(u64, u64, Word),
 }
 
 /// The outcome of a request.

@@ -27,6 +27,20 @@ fn open_place(table: &ListTable, place: usize) -> Option<(u64, Word)> {
     plain_place(table, table.node(number)?)
 }
 
+/// The number of a node with the longest path.
+fn deepest(table: &ListTable) -> u64 {
+    let (mut number, mut longest) = (ROOT, 0usize);
+    for node in &table.nodes {
+        if let Some(way) = &node.way
+            && way.bytes() > longest
+        {
+            number = node.number;
+            longest = way.bytes();
+        }
+    }
+    number
+}
+
 impl Draws {
     /// The number of a living node three times out of four, otherwise any.
     fn living(&mut self, table: &ListTable) -> u64 {
@@ -156,6 +170,17 @@ impl Draws {
         Ask::Name(parent, word)
     }
 
+    /// A further name, once in four times below all others, so that paths get too long.
+    fn link(&mut self, table: &ListTable) -> Ask {
+        let number = self.plain_number(table);
+        let parent = if self.chance(1, 4) {
+            deepest(table)
+        } else {
+            self.named(table)
+        };
+        Ask::Link(number, parent, self.word())
+    }
+
     fn page(&mut self, table: &ListTable) -> Ask {
         let folder = self.parent(table);
         let batch = self.batch();
@@ -164,7 +189,7 @@ impl Draws {
 
     /// What a request asks for, usually about what exists.
     fn ask(&mut self, table: &ListTable) -> Ask {
-        match self.among(44) {
+        match self.among(48) {
             0..=2 => Ask::Node(self.named(table), None),
             3..=7 => self.page(table),
             8..=13 => self.removal(table),
@@ -176,7 +201,8 @@ impl Draws {
             32 => self.use_of_handle(table),
             33 => self.any_ask(),
             40 => self.keep(table),
-            41.. => self.exchange(table),
+            41..=43 => self.exchange(table),
+            44.. => self.link(table),
             _ => self.look_up(table),
         }
     }
@@ -192,7 +218,7 @@ impl Draws {
     /// An outcome that fits.
     fn fitting_end(&mut self, plan: &Plan) -> End {
         match plan.ask {
-            Ask::Name(..) | Ask::Create(..) => End::Entry,
+            Ask::Name(..) | Ask::Create(..) | Ask::Link(..) => End::Entry,
             Ask::Page(_, batch) => End::Entries(self.fitting(batch)),
             Ask::Remove(..) if plan.hide && self.chance(5, 6) => End::Hidden(self.index()),
             Ask::Move(..) if plan.hide && self.chance(5, 6) => {

@@ -105,7 +105,7 @@ impl Draws {
 
     /// Any want.
     pub fn any_ask(&mut self) -> Ask {
-        match self.among(10) {
+        match self.among(11) {
             0 => Ask::Node(self.any_number(), self.any_handle()),
             1 => Ask::Name(self.any_number(), self.word()),
             2 => Ask::Page(self.any_number(), self.batch()),
@@ -130,6 +130,7 @@ impl Draws {
                 self.any_number(),
                 self.word(),
             ),
+            9 => Ask::Link(self.any_number(), self.any_number(), self.word()),
             _ => Ask::Release(self.any_number(), self.any_number()),
         }
     }

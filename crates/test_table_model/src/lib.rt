@@ -14,6 +14,8 @@ mod both_runs;
 #[cfg(test)]
 mod draws;
 #[cfg(test)]
+mod link_rows;
+#[cfg(test)]
 mod list_begin;
 #[cfg(test)]
 mod list_ends;

@@ -147,9 +147,10 @@ impl ListTable {
         Ok(self.last_handle)
     }
 
-    /// Gives an entry for the only name of the request, and opens its file if asked for.
+    /// Gives an entry for the only name of the request, whose path is the last one of its ticket, and opens its file if
+    /// asked for.
     fn give_name(&mut self, request: &mut ListRequest) -> Result<(), AllocError> {
-        let [way, ..] = request.plan.ways.as_slice() else {
+        let Some(way) = request.plan.ways.last() else {
             return Ok(());
         };
         let bearer = self.give(way)?;
@@ -202,12 +203,16 @@ impl ListTable {
     /// Carries out the outcome, if it fits.
     fn act(&mut self, request: &mut ListRequest, end: End) -> Result<(), AllocError> {
         match (request.plan.ask, end) {
-            (Ask::Name(..) | Ask::Create(..), End::Entry) => self.give_name(request),
+            (Ask::Name(..) | Ask::Create(..) | Ask::Link(..), End::Entry) => {
+                self.give_name(request)
+            }
             (Ask::Page(_, batch), End::Entries(findings)) if findings.len() == batch.len() => {
                 self.give_page(request, findings)
             }
             (Ask::Open(number, access), End::Done) => self.open_node(request, number, access),
-            (Ask::Name(..) | Ask::Create(..) | Ask::Page(..), _) => list_none(request),
+            (Ask::Name(..) | Ask::Create(..) | Ask::Link(..) | Ask::Page(..), _) => {
+                list_none(request)
+            }
             _ => self.change(&request.plan, end),
         }
     }

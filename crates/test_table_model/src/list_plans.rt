@@ -208,6 +208,39 @@ impl ListTable {
         Ok(plan)
     }
 
+    /// What a node needs, and what a LOOKUP of the further name of its file needs.
+    fn link_plan(
+        &self,
+        ask: Ask,
+        old: (u64, &Way),
+        new: (u64, &Way, Word),
+    ) -> Result<Plan, AllocError> {
+        let ((number, way), (parent, new_way, word)) = (old, new);
+        let path = new_way.below(word)?;
+        let mut plan = self.node_plan(ask, number, way)?;
+        plan.given.push(parent)?;
+        add_prefixes(&mut plan.shared, &path)?;
+        plan.entries = 1;
+        plan.births = if self.at(&path).is_some() { 0 } else { 1 };
+        plan.ways.push(path)?;
+        Ok(plan)
+    }
+
+    /// Both the node and the parent must be named.
+    fn plan_of_link(
+        &self,
+        ask: Ask,
+        number: u64,
+        new: (u64, Word),
+    ) -> Result<Option<Plan>, AllocError> {
+        let (parent, word) = new;
+        let (Some(way), Some(new_way)) = (self.way_of(number), self.way_of(parent)) else {
+            return Ok(None);
+        };
+        let plan = self.link_plan(ask, (number, way), (parent, new_way, word))?;
+        Ok(Some(plan))
+    }
+
     fn plan_of_move(
         &self,
         ask: Ask,
@@ -243,6 +276,7 @@ impl ListTable {
             | Ask::Exchange(parent, word, new_parent, new_word) => {
                 self.plan_of_move(ask, (parent, word), (new_parent, new_word))
             }
+            Ask::Link(number, parent, word) => self.plan_of_link(ask, number, (parent, word)),
             Ask::Node(number, _)
             | Ask::Name(number, _)
             | Ask::Page(number, _)

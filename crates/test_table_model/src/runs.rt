@@ -29,6 +29,7 @@ const FEW: Limits = Limits {
 /// All results of requests and their ends, except for paths that are too long.
 const MUCH: &[Came] = &[
     Came::Begun,
+    Came::BegunLink,
     Came::Same,
     Came::MayHide,
     Came::Last,
@@ -65,6 +66,7 @@ fn any_steps(rt: HostRuntime) -> Result<(), Fail> {
             steps: STEPS,
             expected: &[
                 Came::Begun,
+                Came::BegunLink,
                 Came::Ended,
                 Came::Settled,
                 Came::Refused(ESTALE),

@@ -1,12 +1,14 @@
 //! The results of a run, and how often each came.
 
-use crate::asks::{Step, Told};
+use crate::asks::{Ask, Step, Told};
 use std::alloc::{AllocError, Global};
 
 /// The result of a call.
 #[derive(Clone, Copy, Debug, PartialEq, Eq)]
 pub enum Came {
     Begun,
+    /// A request for a further name began.
+    BegunLink,
     /// A move to the same path.
     Same,
     /// A file may be hidden.
@@ -30,6 +32,7 @@ fn event_of(step: Step, told: Told) -> Came {
         Told::Go { same: true, .. } => Came::Same,
         Told::Go { hide: true, .. } => Came::MayHide,
         Told::Go { last: true, .. } => Came::Last,
+        Told::Go { .. } if matches!(step, Step::Begin(Ask::Link(..))) => Came::BegunLink,
         Told::Go { .. } => Came::Begun,
         Told::Busy => Came::Busy,
         Told::Refused(errno) => Came::Refused(errno),

@@ -92,6 +92,11 @@ impl<T: Ledgers> Both<T> {
                 number: self.number(number),
                 fh,
             },
+            Ask::Link(number, parent, word) => Want::Link {
+                number: self.number(number),
+                parent: self.number(parent),
+                name: self.pairs.name(word)?,
+            },
         })
     }
 }

@@ -272,7 +272,14 @@ fn answers_to_faulty_frames(rt: HostRuntime) -> Result<(), Fail> {
     ] {
         assert_eq!(rt; fault.errno(), errno);
     }
-    for (opcode, answered) in [(2, false), (6, true), (12, true), (36, false), (42, false)] {
+    for (opcode, answered) in [
+        (2, false),
+        (6, true),
+        (12, true),
+        (13, true),
+        (36, false),
+        (42, false),
+    ] {
         let frame = frame_of(rt.alloc(), opcode, &[])?;
         assert_eq!(rt;
             header_of(&frame),

@@ -19,6 +19,8 @@ mod frames;
 #[cfg(test)]
 mod greeting;
 #[cfg(test)]
+mod hard_links;
+#[cfg(test)]
 mod kinds;
 #[cfg(test)]
 mod links;

@@ -12,7 +12,7 @@ use Rattle.backing.specs.Files.{resized, written}
 use Rattle.backing.specs.Device.{Device, Sound, Before, Within, After, DoesPart, Performs}
 use Rattle.backing.specs.Tree.{Tree, IsFile, IsFolder, IsLink, IsNeither, IsNoLink, IsOther, Blocks, is_path, kind_of, with_item, without, moved, exchanged}
 use Rattle.backing.proofs.PathLemmas.{is_path-same}
-use Rattle.backing.specs.Calls.{Asked, AskStat, AskList, AskMake, AskMakeDir, AskMakeLink, AskRemove, AskRemoveDir, AskRename, AskRenameNew, AskExchange, AskRead, AskReadLink, AskWrite, AskSetLen, AskSync, AskSetPermissions, AskSetOwner, AskSetTimes, Test, BelowRoot, Reached, Present, Free, FileAt, LinkAt, FolderAt, NoFolder, Bare, Differs, NotInto, NotOver, NoOtherOnFolder, NoFolderOnOther, Fits, Passes, Fails, PassesAll, Refuses, Does, Works, tests_of}
+use Rattle.backing.specs.Calls.{Asked, AskStat, AskList, AskMake, AskMakeDir, AskMakeLink, AskRemove, AskRemoveDir, AskRename, AskRenameNew, AskExchange, AskLink, AskRead, AskReadLink, AskWrite, AskSetLen, AskSync, AskSetPermissions, AskSetOwner, AskSetTimes, Test, BelowRoot, Reached, Present, Free, FileAt, LinkAt, FolderAt, NoFolder, Bare, Differs, NotInto, NotOver, NoOtherOnFolder, NoFolderOnOther, Fits, OneName, Passes, Fails, PassesAll, Refuses, Does, Works, tests_of}
 use Rattle.tree_order.specs.Exchanging.{alters, needs, needs_any, works_on, minds}
 
 pub or-left : (x y : Bool) → x ≡ true → (x || y) ≡ true
@@ -52,6 +52,7 @@ passes t u (NoOtherOnFolder s r) same h = λ other folder.
 passes t u (NoFolderOnOther s r) same h = λ folder other.
     h (subst IsFolder (sym (same s (or-left (is_path s s) (is_path r s) (is_path-same s)))) folder) (subst IsOther (sym (same r (or-right (is_path s r) (is_path r r) (is_path-same r)))) other)
 passes t u (Fits limit end) same h = h
+passes t u OneName same h = h
 
 fails : (t u : Tree) (test : Test) (errno : ℤ) → AgreeAt (needs test) t u → Fails t test errno → Fails u test errno
 fails t u (BelowRoot p) errno same h = h
@@ -77,6 +78,7 @@ fails t u (NoOtherOnFolder s r) errno same h =
 fails t u (NoFolderOnOther s r) errno same h =
     (subst IsFolder (same s (or-left (is_path s s) (is_path r s) (is_path-same s))) h.0, subst IsOther (same r (or-right (is_path s r) (is_path r r) (is_path-same r))) h.1, h.2)
 fails t u (Fits limit end) errno same h = h
+fails t u OneName errno same h = h
 
 of_first : (t u : Tree) (test : Test) (tests : List Test) → AgreeAt (needs_any (test ∷ tests)) t u → AgreeAt (needs test) t u
 of_first t u test tests same = λ q h. same q (or-left (needs test q) (needs_any tests q) h)
@@ -133,6 +135,7 @@ outside t u (AskExchange s r) answer q far d = ap (λ (f : Tree). f q) d.1 ∙ (
     same_in : (b : Bool) (f : Tree) (q : Names) → cond b f f q ≡ f q
     same_in true f q = refl
     same_in false f q = refl
+outside t u (AskLink s r) answer q far d = absurd d
 outside t u (AskRead p offset size) answer q far d = ap (λ (f : Tree). f q) d.1
 outside t u (AskReadLink p) answer q far d = ap (λ (f : Tree). f q) d.1
 outside t u (AskWrite p offset []) answer q far d = ap (λ (f : Tree). f q) d.1
@@ -155,6 +158,7 @@ alters_works (AskRemoveDir p) q h = h
 alters_works (AskRename s r) q h = h
 alters_works (AskRenameNew s r) q h = h
 alters_works (AskExchange s r) q h = h
+alters_works (AskLink s r) q h = absurd (false≢true h)
 alters_works (AskRead p offset size) q h = absurd (false≢true h)
 alters_works (AskReadLink p) q h = absurd (false≢true h)
 alters_works (AskWrite p offset piece) q h = h
@@ -205,6 +209,7 @@ does t u t' (AskRename s r) answer same d =
 does t u t' (AskRenameNew s r) answer same d = (moved u s r, (d.0, refl), λ q near. ap (λ (f : Tree). f q) d.1 ∙ moved_near t u s r q same near)
 does t u t' (AskExchange s r) answer same d =
     (cond (is_path s r) u (exchanged u s r), (d.0, refl), λ q near. ap (λ (f : Tree). f q) d.1 ∙ pick_at (is_path s r) t (exchanged t s r) u (exchanged u s r) q (same q near) (exchanged_near t u s r q same near))
+does t u t' (AskLink s r) answer same d = absurd d
 does t u t' (AskRead p offset size) answer same d = (u, ((d.0.0, sym (same p (is_path-same p)) ∙ d.0.1, d.0.2), refl), nowhere t' u)
 does t u t' (AskReadLink p) answer same d = (u, ((d.0.0, sym (same p (is_path-same p)) ∙ d.0.1, d.0.2), refl), nowhere t' u)
 does t u t' (AskWrite p offset []) answer same d = (u, (d.0, refl), unchanged t u t' p same d.1)
@@ -233,6 +238,7 @@ same_needs limit (AskRemoveDir p) q h = h
 same_needs limit (AskRename s r) q h = h
 same_needs limit (AskRenameNew s r) q h = h
 same_needs limit (AskExchange s r) q h = h
+same_needs limit (AskLink s r) q h = h
 same_needs limit (AskRead p offset size) q h = h
 same_needs limit (AskReadLink p) q h = h
 same_needs limit (AskWrite p offset piece) q h = h
@@ -279,6 +285,7 @@ part_outside t u (AskRemoveDir p) q far d = absurd d
 part_outside t u (AskRename s r) q far d = absurd d
 part_outside t u (AskRenameNew s r) q far d = absurd d
 part_outside t u (AskExchange s r) q far d = absurd d
+part_outside t u (AskLink s r) q far d = absurd d
 part_outside t u (AskRead p offset size) q far d = absurd d
 part_outside t u (AskReadLink p) q far d = absurd d
 part_outside t u (AskSetLen p size) q far d = absurd d
@@ -299,6 +306,7 @@ part t u t' (AskRemoveDir p) same d = absurd d
 part t u t' (AskRename s r) same d = absurd d
 part t u t' (AskRenameNew s r) same d = absurd d
 part t u t' (AskExchange s r) same d = absurd d
+part t u t' (AskLink s r) same d = absurd d
 part t u t' (AskRead p offset size) same d = absurd d
 part t u t' (AskReadLink p) same d = absurd d
 part t u t' (AskSetLen p size) same d = absurd d

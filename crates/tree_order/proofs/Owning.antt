@@ -7,7 +7,7 @@ use Rattle.holds.specs.declared.held.Held.{Held}
 use Rattle.holds.specs.Conflicts.{Conflict}
 use Rattle.backing.specs.Tree.{is_path}
 use Rattle.backing.proofs.PathLemmas.{is_path-true}
-use Rattle.backing.specs.Calls.{Asked, AskStat, AskList, AskMake, AskMakeDir, AskMakeLink, AskRemove, AskRemoveDir, AskRename, AskRenameNew, AskExchange, AskRead, AskReadLink, AskWrite, AskSetLen, AskSync, AskSetPermissions, AskSetOwner, AskSetTimes, Test, BelowRoot, Reached, Present, Free, FileAt, LinkAt, FolderAt, NoFolder, Bare, Differs, NotInto, NotOver, NoOtherOnFolder, NoFolderOnOther, Fits, tests_of, unless}
+use Rattle.backing.specs.Calls.{Asked, AskStat, AskList, AskMake, AskMakeDir, AskMakeLink, AskRemove, AskRemoveDir, AskRename, AskRenameNew, AskExchange, AskLink, AskRead, AskReadLink, AskWrite, AskSetLen, AskSync, AskSetPermissions, AskSetOwner, AskSetTimes, Test, BelowRoot, Reached, Present, Free, FileAt, LinkAt, FolderAt, NoFolder, Bare, Differs, NotInto, NotOver, NoOtherOnFolder, NoFolderOnOther, Fits, OneName, tests_of, unless}
 use Rattle.tree_order.specs.Exchanging.{alters, needs, needs_any, works_on, minds, AreFree}
 use Rattle.tree_order.specs.Owning.{Each, Some, Keeps, Owns, IsAtPath, IsLook, StandsApart, paths_of}
 use Rattle.tree_order.proofs.Agreeing.{or-cases}
@@ -58,6 +58,7 @@ alters_below (AskRemoveDir p) q h = inl (path_begins p q h)
 alters_below (AskRename s t) q h = two_lead s t q h
 alters_below (AskRenameNew s t) q h = two_lead s t q h
 alters_below (AskExchange s t) q h = two_lead s t q h
+alters_below (AskLink s t) q h = absurd (false≢true h)
 alters_below (AskRead p offset size) q h = absurd (false≢true h)
 alters_below (AskReadLink p) q h = absurd (false≢true h)
 alters_below (AskWrite p offset piece) q h = inl (path_begins p q h)
@@ -97,6 +98,7 @@ IsAbout ps (NotOver s t) = Unit {0}
 IsAbout ps (NoOtherOnFolder s t) = In ps s × In ps t
 IsAbout ps (NoFolderOnOther s t) = In ps s × In ps t
 IsAbout ps (Fits limit end) = Unit {0}
+IsAbout ps OneName = Unit {0}
 
 near_two : (ps : List Names) (s t q : Names) → In ps s → In ps t → (is_path s q || is_path t q) ≡ true → Some (Near q) ps
 near_two ps s t q i j h = elim (or-cases (is_path s q) (is_path t q) h) [
@@ -120,6 +122,7 @@ near_test ps (NotOver s t) q about h = absurd (false≢true h)
 near_test ps (NoOtherOnFolder s t) q about h = near_two ps s t q about.0 about.1 h
 near_test ps (NoFolderOnOther s t) q about h = near_two ps s t q about.0 about.1 h
 near_test ps (Fits limit end) q about h = absurd (false≢true h)
+near_test ps OneName q about h = absurd (false≢true h)
 
 near_tests : (ps : List Names) (tests : List Test) (q : Names) → Each (IsAbout ps) tests → needs_any tests q ≡ true → Some (Near q) ps
 near_tests ps [] q about h = absurd (false≢true h)
@@ -145,6 +148,7 @@ tests_about (AskRename s t) =
 tests_about (AskRenameNew s t) = (tt, (tt, (inl refl, (inl refl, (tt, (tt, (tt, (inr (inl refl), (inr (inl refl), tt)))))))))
 tests_about (AskExchange s t) =
     (tt, (tt, (inl refl, (inl refl, or_none (s ∷ t ∷ []) (is_path s t) (NotInto s t ∷ NotInto t s ∷ Reached t ∷ Present t ∷ []) (tt, (tt, (inr (inl refl), (inr (inl refl), tt))))))))
+tests_about (AskLink s t) = (tt, (tt, (inl refl, (inl refl, (inr (inl refl), (inr (inl refl), (tt, tt)))))))
 tests_about (AskRead p offset size) = (inl refl, (inl refl, (inl refl, tt)))
 tests_about (AskReadLink p) = (inl refl, (inl refl, (inl refl, tt)))
 tests_about (AskWrite p offset piece) = (inl refl, (inl refl, (inl refl, (tt, tt))))
@@ -171,6 +175,7 @@ work_near (AskRemoveDir p) q h = inl (inl (path_ends p q h))
 work_near (AskRename s t) q h = two_near s t q h
 work_near (AskRenameNew s t) q h = two_near s t q h
 work_near (AskExchange s t) q h = two_near s t q h
+work_near (AskLink s t) q h = absurd (false≢true h)
 work_near (AskRead p offset size) q h = inl (inl (path_ends p q h))
 work_near (AskReadLink p) q h = inl (inl (path_ends p q h))
 work_near (AskWrite p offset piece) q h = inl (inl (path_ends p q h))
@@ -189,6 +194,7 @@ minds_near call q h = elim (or-cases (needs_any (tests_of None call) q) (works_o
 -- ---- what matters to a call at one path stands there or above it
 
 abbrev IsOnWay : Names → Test → Type 0
+IsOnWay p (BelowRoot r) = Unit {0}
 IsOnWay p (Reached r) = r ≡ p
 IsOnWay p (Present r) = r ≡ p
 IsOnWay p (Free r) = r ≡ p
@@ -196,6 +202,7 @@ IsOnWay p (FileAt r) = r ≡ p
 IsOnWay p (LinkAt r) = r ≡ p
 IsOnWay p (NoFolder r) = r ≡ p
 IsOnWay p (Fits limit end) = Unit {0}
+IsOnWay p OneName = Unit {0}
 IsOnWay p test = ⊥
 
 way_test : (p : Names) (test : Test) (q : Names) → IsOnWay p test → needs test q ≡ true → is_prefix q p ≡ true
@@ -206,7 +213,8 @@ way_test p (FileAt r) q way h = subst (λ (x : Names). is_prefix q x ≡ true) w
 way_test p (LinkAt r) q way h = subst (λ (x : Names). is_prefix q x ≡ true) way (path_ends r q h)
 way_test p (NoFolder r) q way h = subst (λ (x : Names). is_prefix q x ≡ true) way (path_ends r q h)
 way_test p (Fits limit end) q way h = absurd (false≢true h)
-way_test p (BelowRoot r) q way h = absurd way
+way_test p (BelowRoot r) q way h = absurd (false≢true h)
+way_test p OneName q way h = absurd (false≢true h)
 way_test p (FolderAt r) q way h = absurd way
 way_test p (Bare r) q way h = absurd way
 way_test p (Differs s t) q way h = absurd way
@@ -231,6 +239,22 @@ above_all p tests q ways h = elim (or-cases (needs_any tests q) (is_path p q) h)
 abbrev Above : Names → List Names → Type 0
 Above q = Some (λ (p : Names). is_prefix q p ≡ true)
 
+above_two : (s t : Names) (tests : List Test) (q : Names) → Each (λ (test : Test). IsOnWay s test ⊎ IsOnWay t test) tests → needs_any tests q ≡ true → Above q (s ∷ t ∷ [])
+above_two s t [] q ways h = absurd (false≢true h)
+above_two s t (test ∷ tests) q ways h = elim (or-cases (needs test q) (needs_any tests q) h) [
+  | inl a ↦ elim ways.0 [
+    | inl way ↦ inl (way_test s test q way a)
+    | inr way ↦ inr (inl (way_test t test q way a))
+  ]
+  | inr b ↦ above_two s t tests q ways.1 b
+]
+
+link_above : (s t q : Names) → minds (AskLink s t) q ≡ true → Above q (s ∷ t ∷ [])
+link_above s t q h = elim (or-cases (needs_any (tests_of None (AskLink s t)) q) (works_on (AskLink s t) q) h) [
+  | inl a ↦ above_two s t (tests_of None (AskLink s t)) q (inl tt, (inl tt, (inl refl, (inl refl, (inr refl, (inr refl, (inl tt, tt))))))) a
+  | inr b ↦ absurd (false≢true b)
+]
+
 minds_above : (call : Asked) (q : Names) → IsAtPath call → minds call q ≡ true → Above q (paths_of call)
 minds_above (AskStat p) q at h = inl (above_all p (tests_of None (AskStat p)) q (refl, (refl, tt)) h)
 minds_above (AskList p) q at h = absurd at
@@ -242,6 +266,7 @@ minds_above (AskRemoveDir p) q at h = absurd at
 minds_above (AskRename s t) q at h = absurd at
 minds_above (AskRenameNew s t) q at h = absurd at
 minds_above (AskExchange s t) q at h = absurd at
+minds_above (AskLink s t) q at h = link_above s t q h
 minds_above (AskRead p offset size) q at h = inl (above_all p (tests_of None (AskRead p offset size)) q (refl, (refl, (refl, tt))) h)
 minds_above (AskReadLink p) q at h = inl (above_all p (tests_of None (AskReadLink p)) q (refl, (refl, (refl, tt))) h)
 minds_above (AskWrite p offset piece) q at h = inl (above_all p (tests_of None (AskWrite p offset piece)) q (refl, (refl, (refl, (tt, tt)))) h)
@@ -262,6 +287,7 @@ look_at (AskRemoveDir p) look = look
 look_at (AskRename s t) look = look
 look_at (AskRenameNew s t) look = look
 look_at (AskExchange s t) look = look
+look_at (AskLink s t) look = tt
 look_at (AskRead p offset size) look = tt
 look_at (AskReadLink p) look = tt
 look_at (AskWrite p offset piece) look = tt
@@ -282,6 +308,7 @@ look_alters (AskRemoveDir p) q look = absurd look
 look_alters (AskRename s t) q look = absurd look
 look_alters (AskRenameNew s t) q look = absurd look
 look_alters (AskExchange s t) q look = absurd look
+look_alters (AskLink s t) q look = refl
 look_alters (AskRead p offset size) q look = refl
 look_alters (AskReadLink p) q look = refl
 look_alters (AskWrite p offset piece) q look = absurd look

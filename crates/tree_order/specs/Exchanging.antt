@@ -2,7 +2,7 @@
 use Rattle.std.specs.Prelude.{◌≡◌, ◌||◌, Bool, true, false, List, [], ◌∷◌, None}
 use Rattle.paths.specs.Prefixes.{Names, is_prefix}
 use Rattle.backing.specs.Tree.{is_path}
-use Rattle.backing.specs.Calls.{Asked, AskStat, AskList, AskMake, AskMakeDir, AskMakeLink, AskRemove, AskRemoveDir, AskRename, AskRenameNew, AskExchange, AskRead, AskReadLink, AskWrite, AskSetLen, AskSync, AskSetPermissions, AskSetOwner, AskSetTimes, Test, BelowRoot, Reached, Present, Free, FileAt, LinkAt, FolderAt, NoFolder, Bare, Differs, NotInto, NotOver, NoOtherOnFolder, NoFolderOnOther, Fits, tests_of}
+use Rattle.backing.specs.Calls.{Asked, AskStat, AskList, AskMake, AskMakeDir, AskMakeLink, AskRemove, AskRemoveDir, AskRename, AskRenameNew, AskExchange, AskLink, AskRead, AskReadLink, AskWrite, AskSetLen, AskSync, AskSetPermissions, AskSetOwner, AskSetTimes, Test, BelowRoot, Reached, Present, Free, FileAt, LinkAt, FolderAt, NoFolder, Bare, Differs, NotInto, NotOver, NoOtherOnFolder, NoFolderOnOther, Fits, OneName, tests_of}
 
 -- the paths at which a call may change what stands
 abbrev pub alters : Asked → Names → Bool
@@ -16,6 +16,7 @@ alters (AskRemoveDir p) q = is_path p q
 alters (AskRename s t) q = is_prefix s q || is_prefix t q
 alters (AskRenameNew s t) q = is_prefix s q || is_prefix t q
 alters (AskExchange s t) q = is_prefix s q || is_prefix t q
+alters (AskLink s t) q = false
 alters (AskRead p offset size) q = false
 alters (AskReadLink p) q = false
 alters (AskWrite p offset piece) q = is_path p q
@@ -42,6 +43,7 @@ needs (NotOver s t) q = false
 needs (NoOtherOnFolder s t) q = is_path s q || is_path t q
 needs (NoFolderOnOther s t) q = is_path s q || is_path t q
 needs (Fits limit end) q = false
+needs OneName q = false
 
 abbrev pub needs_any : List Test → Names → Bool
 needs_any [] q = false
@@ -59,6 +61,7 @@ works_on (AskRemoveDir p) q = is_path p q
 works_on (AskRename s t) q = is_prefix s q || is_prefix t q
 works_on (AskRenameNew s t) q = is_prefix s q || is_prefix t q
 works_on (AskExchange s t) q = is_prefix s q || is_prefix t q
+works_on (AskLink s t) q = false
 works_on (AskRead p offset size) q = is_path p q
 works_on (AskReadLink p) q = is_path p q
 works_on (AskWrite p offset piece) q = is_path p q

@@ -4,12 +4,12 @@ use Rattle.std.specs.Str.{IsUtf8}
 use Rattle.std.specs.List.{AllByRecursion}
 use Rattle.byteorder.specs.Endian.{little_number}
 use Rattle.wire.specs.declared.header.Header.{Header}
-use Rattle.wire.specs.declared.opcode.TheConstants.{LOOKUP, FORGET, GETATTR, SETATTR, READLINK, SYMLINK, MKDIR, UNLINK, RMDIR, RENAME, OPEN, READ, WRITE, STATFS, RELEASE, FSYNC, FLUSH, INIT, OPENDIR, READDIR, RELEASEDIR, FSYNCDIR, CREATE, INTERRUPT, DESTROY, BATCH_FORGET, READDIRPLUS, RENAME2}
+use Rattle.wire.specs.declared.opcode.TheConstants.{LOOKUP, FORGET, GETATTR, SETATTR, READLINK, SYMLINK, MKDIR, UNLINK, RMDIR, RENAME, LINK, OPEN, READ, WRITE, STATFS, RELEASE, FSYNC, FLUSH, INIT, OPENDIR, READDIR, RELEASEDIR, FSYNCDIR, CREATE, INTERRUPT, DESTROY, BATCH_FORGET, READDIRPLUS, RENAME2}
 use Rattle.wire.specs.declared.request.TheConstants.{HEADER_LEN, MAX_FRAME_LEN, MAX_READ_LEN, MAX_WRITE_LEN}
 use Rattle.wire.specs.declared.request.NewAttributes.{NewAttributes}
 use Rattle.wire.specs.declared.request.Request.{Request}
 use Rattle.wire.specs.declared.request.Operation.{Operation}
-use Rattle.wire.specs.declared.request.Operation.TheVariants.{Lookup, Forget, GetAttr, SetAttr, ReadLink, MakeLink, MakeDir, Unlink, RemoveDir, Rename, Open, Read, Write, StatFs, Release, Sync, Flush, Init, OpenDir, ReadDir, ReleaseDir, SyncDir, Create, Interrupt, Destroy, BatchForget, ReadDirPlus, Rename2}
+use Rattle.wire.specs.declared.request.Operation.TheVariants.{Lookup, Forget, GetAttr, SetAttr, ReadLink, MakeLink, MakeDir, Unlink, RemoveDir, Rename, Link, Open, Read, Write, StatFs, Release, Sync, Flush, Init, OpenDir, ReadDir, ReleaseDir, SyncDir, Create, Interrupt, Destroy, BatchForget, ReadDirPlus, Rename2}
 use Rattle.wire.specs.Fields.{Field, unread, text, link_text, counted, limited, anything, u32, u64, Value, num, name, bytes, Spells}
 
 -- ---- the header: the length, the opcode, unique, the node number, and sixteen bytes that are not read
@@ -61,6 +61,7 @@ layout opcode =
     else (if opcode == UNLINK then Some (text ∷ [])
     else (if opcode == RMDIR then Some (text ∷ [])
     else (if opcode == RENAME then Some (u64 ∷ text ∷ text ∷ [])
+    else (if opcode == LINK then Some (u64 ∷ text ∷ [])
     else (if opcode == OPEN then Some (u32 ∷ unread 4 ∷ [])
     else (if opcode == READ then Some (u64 ∷ u64 ∷ limited MAX_READ_LEN ∷ unread 20 ∷ [])
     else (if opcode == WRITE then Some (u64 ∷ u64 ∷ counted 1 20 MAX_WRITE_LEN ∷ [])
@@ -79,7 +80,7 @@ layout opcode =
     else (if opcode == BATCH_FORGET then Some (counted 16 4 (2 ^ 32 - 1) ∷ [])
     else (if opcode == READDIRPLUS then Some (u64 ∷ u64 ∷ limited MAX_READ_LEN ∷ unread 20 ∷ [])
     else (if opcode == RENAME2 then Some (u64 ∷ u32 ∷ unread 4 ∷ text ∷ text ∷ [])
-    else None)))))))))))))))))))))))))))
+    else None))))))))))))))))))))))))))))
 
 abbrev pub opcode_of : Operation → ℕ
 opcode_of (Lookup _) = LOOKUP
@@ -92,6 +93,7 @@ opcode_of (MakeDir _ _ _) = MKDIR
 opcode_of (Unlink _) = UNLINK
 opcode_of (RemoveDir _) = RMDIR
 opcode_of (Rename _ _ _) = RENAME
+opcode_of (Link _ _) = LINK
 opcode_of (Open _) = OPEN
 opcode_of (Read _ _ _) = READ
 opcode_of (Write _ _ _) = WRITE
@@ -123,6 +125,7 @@ values_of (MakeDir n mode umask) = num mode ∷ num umask ∷ name n.now ∷ []
 values_of (Unlink n) = name n.now ∷ []
 values_of (RemoveDir n) = name n.now ∷ []
 values_of (Rename n new_parent new_name) = num new_parent ∷ name n.now ∷ name new_name.now ∷ []
+values_of (Link old_node n) = num old_node ∷ name n.now ∷ []
 values_of (Open flags) = num flags ∷ []
 values_of (Read fh offset size) = num fh ∷ num offset ∷ num size ∷ []
 values_of (Write fh offset written) = num fh ∷ num offset ∷ bytes written.now ∷ []

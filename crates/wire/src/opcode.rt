@@ -32,6 +32,9 @@ pub const RMDIR: u32 = 11;
 /// `FUSE_RENAME` of `fuse.h`: gives a node another name.
 pub const RENAME: u32 = 12;
 
+/// `FUSE_LINK` of `fuse.h`: gives a node a further name.
+pub const LINK: u32 = 13;
+
 /// `FUSE_OPEN` of `fuse.h`: opens a file.
 pub const OPEN: u32 = 14;
 

@@ -10,7 +10,7 @@ use crate::fronts::{
     counted_front, name_of, nothing_left, text_front, u32_front, u64_front, unread_front,
 };
 use crate::opcode::{
-    BATCH_FORGET, CREATE, DESTROY, FLUSH, FORGET, FSYNC, FSYNCDIR, GETATTR, INIT, INTERRUPT,
+    BATCH_FORGET, CREATE, DESTROY, FLUSH, FORGET, FSYNC, FSYNCDIR, GETATTR, INIT, INTERRUPT, LINK,
     LOOKUP, MKDIR, OPEN, OPENDIR, READ, READDIR, READDIRPLUS, READLINK, RELEASE, RELEASEDIR,
     RENAME, RENAME2, RMDIR, SETATTR, STATFS, SYMLINK, UNLINK, WRITE,
 };
@@ -159,6 +159,15 @@ fn rename2(body: &[u8]) -> Result<Operation<'_>, WireFault>
 }
 
 #[tactic(auto, unfolding(crate::specs::Reading::operation_at))]
+fn link(body: &[u8]) -> Result<Operation<'_>, WireFault>
+    ensures { Gives told result (operation_at LINK body.now) }
+{
+    let (old_node, rest) = u64_front(body)?;
+    let name = name_alone(rest)?;
+    Ok(Operation::Link { old_node, name })
+}
+
+#[tactic(auto, unfolding(crate::specs::Reading::operation_at))]
 fn stat_fs(body: &[u8]) -> Result<Operation<'_>, WireFault>
     ensures { Gives told result (operation_at STATFS body.now) }
 {
@@ -219,6 +228,7 @@ pub fn operation_of(opcode: u32, body: &[u8]) -> Result<Operation<'_>, WireFault
             name: name_alone(body)?,
         }),
         RENAME => rename(body),
+        LINK => link(body),
         OPEN => open(body),
         READ => read(body),
         WRITE => write(body),

@@ -6,7 +6,7 @@ ghost use Rattle.wire.specs.Written.{operation_bytes, written};
 ghost use Rattle.wire.specs.Rows.{part_bytes, parts_bytes};
 
 use crate::opcode::{
-    BATCH_FORGET, CREATE, DESTROY, FLUSH, FORGET, FSYNC, FSYNCDIR, GETATTR, INIT, INTERRUPT,
+    BATCH_FORGET, CREATE, DESTROY, FLUSH, FORGET, FSYNC, FSYNCDIR, GETATTR, INIT, INTERRUPT, LINK,
     LOOKUP, MKDIR, OPEN, OPENDIR, READ, READDIR, READDIRPLUS, READLINK, RELEASE, RELEASEDIR,
     RENAME, RENAME2, RMDIR, SETATTR, STATFS, SYMLINK, UNLINK, WRITE,
 };
@@ -80,6 +80,7 @@ pub fn row_of<'a>(operation: &Operation<'a>) -> Row<'a>
             RENAME,
             [U64(new_parent), Text(name), Text(new_name), end, end],
         ),
+        Operation::Link { old_node, name } => (LINK, [U64(old_node), Text(name), end, end, end]),
         Operation::Open { flags } => (OPEN, [U32(flags), Zeros(4), end, end, end]),
         Operation::Read { fh, offset, size } => (
             READ,

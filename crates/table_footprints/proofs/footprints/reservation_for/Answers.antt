@@ -7,7 +7,7 @@ use Rattle.table_footprints.specs.Gatherings.{IsWanted, refusal_errno}
 use Rattle.table_footprints.specs.NewRequests.{IsRefusedRequest}
 use Rattle.table_footprints.specs.Footprints.{name_footprint, node_footprint}
 use Rattle.table_footprints.proofs.Pathless.{closing_refused, closing_wanted}
-use Rattle.table_footprints.proofs.Wanting.{entry_there, exchange_refused, exchange_wanted, move_refused, move_wanted, name_opened, named_wanted, node_opened, node_refused, node_wanted, refused_as, removal_refused, removal_wanted, unsound_opening}
+use Rattle.table_footprints.proofs.Wanting.{entry_there, exchange_refused, exchange_wanted, link_wanted, move_refused, move_wanted, name_opened, named_wanted, node_opened, node_refused, node_wanted, refused_as, removal_refused, removal_wanted, unsound_opening}
 use Rattle.table_footprints.proofs.footprints.reservation_for.Goals as goal
 
 pub returns-in-Node-clause-err : goal.returns-in-Node-clause-err
@@ -98,3 +98,14 @@ pub returns-in-Release-clause-err : goal.returns-in-Release-clause-err
 returns-in-Release-clause-err c =
     let seen = seen_of c.args.tree.now c.args.files.now c.args.counter in
     IfErr-weaker c.closing_reservation.result _ (λ (r : FootprintRefusal). IsRefusedRequest seen c.args.want.now (refusal_errno r)) (λ r starving. closing_refused seen c.closing_reservation.ensures.tree _ c.closing_reservation.ensures.files.many c.args.want.now _ _ r c.in-Release.is starving) c.closing_reservation.ensures.err
+
+pub returns-in-Link-clause-ok : goal.returns-in-Link-clause-ok
+returns-in-Link-clause-ok c =
+    let seen = seen_of c.args.tree.now c.args.files.now c.args.counter in
+    IfOk-weaker c.reservation_of-in-Link.result _ (λ t. IsWanted seen c.args.want.now t) (λ t agreed. link_wanted seen c.args.want.now _ _ _ t c.in-Link.is agreed.fits agreed.reservation) c.reservation_of-in-Link.ensures.ok
+
+pub returns-in-Link-clause-err : goal.returns-in-Link-clause-err
+returns-in-Link-clause-err c =
+    let seen = seen_of c.args.tree.now c.args.files.now c.args.counter in
+    let t = c.reservation_of-in-Link.ensures in
+    IfErr-weaker c.reservation_of-in-Link.result _ (λ (r : FootprintRefusal). IsRefusedRequest seen c.args.want.now (refusal_errno r)) (λ r unsound. refused_as seen c.args.want.now _ (refusal_errno r) c.in-Link.is (entry_there seen.at _ _ t.tree t.census c.in-Link.parent c.in-Link.name) unsound) t.err

@@ -1,7 +1,7 @@
 use Rattle.std.proofs.Common.{rules}
 use Rattle.wire.specs.Written.{zeros}
 use Rattle.wire.proofs.Lengths.{lengths}
-use Rattle.wire.proofs.writing.row_of.Goals.{in-Lookup, in-Forget, in-GetAttr, in-SetAttr, in-ReadLink, in-MakeLink, in-MakeDir, in-Unlink, in-RemoveDir, in-Rename, in-Open, in-Read, in-Write, in-StatFs, in-Release, in-Sync, in-Flush, in-Init, in-OpenDir, in-ReadDir, in-ReleaseDir, in-SyncDir, in-Create, in-Interrupt, in-Destroy, in-BatchForget, in-ReadDirPlus, in-Rename2}
+use Rattle.wire.proofs.writing.row_of.Goals.{in-Lookup, in-Forget, in-GetAttr, in-SetAttr, in-ReadLink, in-MakeLink, in-MakeDir, in-Unlink, in-RemoveDir, in-Rename, in-Link, in-Open, in-Read, in-Write, in-StatFs, in-Release, in-Sync, in-Flush, in-Init, in-OpenDir, in-ReadDir, in-ReleaseDir, in-SyncDir, in-Create, in-Interrupt, in-Destroy, in-BatchForget, in-ReadDirPlus, in-Rename2}
 use Rattle.wire.proofs.writing.row_of.Goals as goal
 
 -- with the operation given, the layout is computed directly and not found by a search over all opcodes
@@ -18,6 +18,7 @@ returns-clause-bytes c = elim c.match-operation.branch [
   | in-Unlink w ↦ rw (w.opcode-is, w.in-Unlink.is) search (rules, lengths)
   | in-RemoveDir w ↦ rw (w.opcode-is, w.in-RemoveDir.is) search (rules, lengths)
   | in-Rename w ↦ rw (w.opcode-is, w.in-Rename.is) search (rules, lengths)
+  | in-Link w ↦ rw (w.opcode-is, w.in-Link.is) search (rules, lengths)
   | in-Open w ↦ rw (w.opcode-is, w.in-Open.is) search (rules, lengths)
   | in-Read w ↦ rw (w.opcode-is, w.in-Read.is) search (rules, lengths)
   | in-Write w ↦ rw (w.opcode-is, w.in-Write.is) search (rules, lengths)
