@@ -15,12 +15,12 @@ WITHOUT = {"rw": "ro", "suid": "nosuid", "dev": "nodev", "exec": "noexec", "asyn
            "diratime": "nodiratime", "norelatime": "relatime", "nostrictatime": "strictatime", "nolazytime": "lazytime"}
 # What the kernel's FUSE itself knows, what the server is told by words of its own, and what mount(8) has worked off before it calls.
 KERNELS = {"allow_other", "default_permissions", "max_read", "blksize"}
-SERVERS = {"kinds", "attributes", "workers", "uid", "gid", "nodes", "files", "requests", "counts", "postings"}
+SERVERS = {"kinds", "names", "attributes", "workers", "uid", "gid", "nodes", "files", "requests", "counts", "postings"}
 OWN = {"single", "nosingle", "server", "log"}
 PASSED_OVER = {"defaults", "auto", "noauto", "user", "nouser", "users", "owner", "noowner", "group", "nogroup", "_netdev", "nofail", "comment", "silent", "loud"}
 
 # The words of a call: a helper of mount(8) is told to let unknown options pass (-s), to do nothing (-f), and what is of no use here.
-WORDS = ("sfnvo:t:N:",) if HELPER else ("sbho:", ["server=", "log=", "kinds=", "attributes=", "workers=", "single", "no-single", "allow-other", "background", "help"])
+WORDS = ("sfnvo:t:N:",) if HELPER else ("sbho:", ["server=", "log=", "kinds=", "names=", "attributes=", "workers=", "single", "no-single", "allow-other", "background", "help"])
 OPTION_OF = {"-s": "single", "--single": "single", "--no-single": "nosingle", "--allow-other": "allow_other"}
 
 

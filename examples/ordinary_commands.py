@@ -237,7 +237,39 @@ git init -q hg && cd hg && git branch -q -M main && git config user.name a && gi
 git clone -q --local hg hc && names hg/.git/objects hc/.git/objects && git -C hc fsck --no-progress && git -C hc status --porcelain && rm -rf hg && git -C hc log --format=%s && git -C hc gc -q && git -C hc fsck --no-progress
 python3 -c "import os; os.mkdir('hp'); open('hp/a', 'w').write('x'); os.link('hp/a', 'hp/b'); os.replace('hp/a', 'hp/c'); print(sorted(os.listdir('hp')), os.stat('hp/b').st_ino == os.stat('hp/c').st_ino)" && names hp
 seq 5 > hn && for n in $(seq 1 40); do ln hn hp/n$n; done && names hp | tail -1 && rm -r hp && names hn
+python3 -c "import os; f = os.open('gone', os.O_RDWR | os.O_CREAT); print(os.fstat(f).st_nlink); os.unlink('gone'); print(os.fstat(f).st_nlink, os.write(f, b'x'), os.fstat(f).st_size)"
+python3 -c "import os; f = os.open('gone', os.O_RDWR | os.O_CREAT); os.link('gone', 'kept'); os.unlink('gone'); print(os.fstat(f).st_nlink); os.close(f)"; sleep 1.2; names kept; rm kept
+python3 -c "import os; f = os.open('gone', os.O_RDWR | os.O_CREAT); open('other', 'w').write('y'); os.rename('other', 'gone'); print(os.fstat(f).st_nlink, os.stat('gone').st_nlink)" && rm gone
 rm -rf ht hca hcr hx hr hs hc hn && echo one > h1 && ln h1 h2 && names h1 h2
+""".strip().split("\n")
+
+# Names of any bytes, in a folder `bn`, one of them with each byte that a name can have: 254 of them.
+NAMES = r"""
+mkdir bn && python3 -c "import os; os.chdir('bn'); each = [bytes([n]) for n in range(1, 256) if n != 47]; [open(b'n' + one, 'w').write(str(one)) for one in each]; open(b''.join(each), 'w').write('all')" && ls bn | wc -l && ls bn | md5sum
+find bn -type f -print0 | sort -z | md5sum && find bn -type f -printf '%f\0' | sort -z | md5sum && cat bn/n* | md5sum
+python3 -c "import os; found = sorted(os.listdir(b'bn')); print(len(found), max(map(len, found)), found[:3], found[-3:])"
+: > "$(printf 'bn/odd \377')" && test -e "$(printf 'bn/odd \377')" && test ! -e "$(printf 'bn/odd \376')" && ls -b bn | grep odd && rm "$(printf 'bn/odd \377')"
+cat "$(printf 'bn/none \377')"
+mv "$(printf 'bn/n\377')" "$(printf 'bn/m\376\377')" && cat "$(printf 'bn/m\376\377')" && mv -n "$(printf 'bn/m\376\377')" "$(printf 'bn/n\376')"; ls -b bn | tail -n 2
+mkdir -p "$(printf 'bn/d\355\240\200/\303')" && echo x > "$(printf 'bn/d\355\240\200/\303/\377')" && find bn/d* -print0 | sort -z | od -c && cat bn/d*/*/*
+mkdir "$(printf 'bn/d\355\240\200')"; rmdir "$(printf 'bn/d\355\240\200')"
+(exec 3<> "$(printf 'bn/n\200')"; rm "$(printf 'bn/n\200')"; cat <&3; ls bn | wc -l)
+cp -r bn bn2 && diff -r bn bn2 && find bn2 -print0 | sort -z | md5sum && rm -r bn2
+tar -cf "$ELSEWHERE/n.tar" bn && tar -tf "$ELSEWHERE/n.tar" | sort | md5sum && mkdir bx && tar -xmf "$ELSEWHERE/n.tar" -C bx --no-same-owner --no-same-permissions && diff -r bn bx/bn && rm -r bx
+rm -r bn && ls
+""".strip().split("\n")
+
+# The same with links and with attributes that are kept. The files of `git add` have names of each byte.
+KEPT_NAMES = r"""
+mkdir bn && python3 -c "import os; os.chdir('bn'); each = [bytes([n]) for n in range(1, 256) if n != 47]; [open(b'n' + one, 'w').write(str(one)) for one in each]; open(b''.join(each), 'w').write('all')"
+ln -s "$(printf 'n\377')" "$(printf 'bn/l\200')" && cat "$(printf 'bn/l\200')" && readlink "$(printf 'bn/l\200')" | od -c && find bn -type l -printf '%f %l\n' | od -c && rm "$(printf 'bn/l\200')"
+ln "$(printf 'bn/n\377')" "$(printf 'bn/\377')" && test "$(printf 'bn/n\377')" -ef "$(printf 'bn/\377')" && stat -c %h "$(printf 'bn/\377')"
+find bn -depth -exec touch -d @900000000.25 {} + && chmod 640 "$(printf 'bn/n\376')" && touch -d @1000000000.5 "$(printf 'bn/n\376')" && stat -c '%a %y' "$(printf 'bn/n\376')"
+cp -a bn bn2 && diff -r bn bn2 && show bn2 | cut -d' ' -f2- | sort | md5sum && rm -r bn2
+rsync -a bn/ bs && diff -r bn bs && rsync -ai bn/ bs && rm "$(printf 'bs/n\240')" && rsync -ai bn/ bs | wc -l && rm -r bs
+git init -q bg && cd bg && git branch -q -M main && git config user.name a && git config user.email a@b && cp -r ../bn/. . && git add . && git commit -q -m one && git status --porcelain && git ls-files -z | md5sum && git log --format=%H
+git clone -q bg bc && diff -r --exclude=.git bg bc && git -C bc status --porcelain && git -C bc mv "$(printf 'n\377')" "$(printf 'moved \376')" && git -C bc status --porcelain && rm -rf bg bc
+rm -r bn && ls
 """.strip().split("\n")
 
 # A pipe and a socket stand there already.

@@ -15,7 +15,8 @@ Bodies     `entry_of(body)` and its like read the body of one reply.
         client.destroy()
 
 A node is a number that the server gave for a name. It counts how often it gave each out, and `forget` gives that back. ROOT is always
-there. A handle is a number of an open file or folder. Names are text or bytes.
+there. A handle is a number of an open file or folder. Names are text or bytes; a server that takes texts alone (`--names text`) refuses
+those that are no UTF-8. What is made belongs to the `caller` of a client, where the server is user 0 and has attributes of the host.
 """
 import errno
 import os
@@ -117,6 +118,11 @@ class Statfs(NamedTuple):
 
 def request(opcode, unique, node=0, body=b""):
     return HEADER.pack(HEADER.size + len(body), opcode, unique, node, 0, 0, 0, 0) + body
+
+
+def by(frame, uid, gid):
+    """The same request of this user and this group."""
+    return frame[:24] + struct.pack("<II", uid, gid) + frame[32:]
 
 
 def name_bytes(name):
@@ -380,6 +386,7 @@ class Client:
         """Takes the calls that read at most so many bytes, write bytes, and close; `connect` and `over` know them."""
         self.recv, self.sendall, self.close = receive, send, leave
         self.unique = 0
+        self.caller = 0, 0  # the user and the group that `ask` says are asking
 
     @classmethod
     def connect(cls, path, seconds=5):
@@ -429,7 +436,7 @@ class Client:
     def ask(self, frame, about=None):
         """Sends a request that this client numbered, and hands out the body of its reply."""
         _, opcode, wanted = struct.unpack_from("<IIQ", frame)
-        reply = self.exchange(frame)
+        reply = self.exchange(by(frame, *self.caller))
         if reply is None:
             raise ConnectionResetError(errno.ECONNRESET, "the server ended before it answered " + NAMES[opcode])
         unique, error, body = reply

@@ -1,5 +1,6 @@
 """What any stream of bytes must be answered: cuts it into frames, and says of each whether a reply is due, and of what form."""
 import struct
+from typing import NamedTuple
 
 LOOKUP, FORGET, GETATTR, SETATTR, READLINK, SYMLINK, MKDIR, UNLINK, RMDIR, RENAME, LINK, OPEN, READ, WRITE, STATFS = 1, 2, 3, 4, 5, 6, 9, 10, 11, 12, 13, 14, 15, 16, 17
 RELEASE, FSYNC, FLUSH, INIT, OPENDIR, READDIR, RELEASEDIR, FSYNCDIR, CREATE, INTERRUPT = 18, 20, 25, 26, 27, 28, 29, 30, 35, 36
@@ -26,15 +27,27 @@ ONLY_ERRORS = {STATFS: set(), FLUSH: {EBADF}, RELEASEDIR: {EBADF}, FSYNCDIR: {EB
                LINK: {EPERM, ENOENT, EAGAIN, EEXIST, ENOTDIR, ENFILE, ENAMETOOLONG, ESTALE}}
 
 
-def fault_of_name(name):
+class Shown(NamedTuple):
+    """Whether links are shown, and whether names may have any bytes."""
+    links: bool = False
+    bytes: bool = False
+
+
+def is_text(name):
+    try:
+        name.decode()
+    except UnicodeDecodeError:
+        return False
+    return True
+
+
+def fault_of_name(name, shown):
     """The error of a name by itself, or 0."""
     if not name:
         return EINVAL
     if len(name) > 255:
         return ENAMETOOLONG
-    try:
-        name.decode()
-    except UnicodeDecodeError:
+    if not shown.bytes and not is_text(name):
         return EINVAL
     return EINVAL if name in (b".", b"..") or b"/" in name else 0
 
@@ -47,13 +60,13 @@ def names_of(opcode, body):
     return body[skip:-1].split(b"\0")
 
 
-def fault_of_names(opcode, body):
+def fault_of_names(opcode, body, shown):
     names = names_of(opcode, body)
     if names is None:
         return EINVAL
     for name in names:
-        if fault_of_name(name):
-            return fault_of_name(name)
+        if fault_of_name(name, shown):
+            return fault_of_name(name, shown)
     if any(name.startswith(b".fuse_hidden") for name in names):
         return ENOENT if opcode == LOOKUP else EPERM
     if opcode == LINK and struct.unpack_from("<Q", body)[0] == ROOT:
@@ -63,26 +76,26 @@ def fault_of_names(opcode, body):
     return EINVAL if opcode == CREATE and body[0] & 3 == 3 else 0
 
 
-def fault_of_symlink(body):
+def fault_of_symlink(body, shown):
     """The error of a SYMLINK: a name, and the link's text, each with its zero byte."""
     if not body.endswith(b"\0") or body.count(b"\0") != 2:
         return EINVAL
     name, text = body[:-1].split(b"\0")
-    if fault_of_name(name):
-        return fault_of_name(name)
+    if fault_of_name(name, shown):
+        return fault_of_name(name, shown)
     if name.startswith(b".fuse_hidden"):
         return EPERM
     return ENOENT if not text else ENAMETOOLONG if len(text) > 4095 else 0
 
 
-def fault_of(opcode, body, links=False):
+def fault_of(opcode, body, shown):
     """The error that the bytes of a request have by themselves, or 0; an INIT's and a silent one's are told elsewhere."""
-    if opcode in OF_LINKS and not links:
+    if opcode in OF_LINKS and not shown.links:
         return ENOSYS
     if opcode in (SYMLINK, READLINK):
-        return fault_of_symlink(body) if opcode == SYMLINK else 0
+        return fault_of_symlink(body, shown) if opcode == SYMLINK else 0
     if opcode in NAMED:
-        return fault_of_names(opcode, body)
+        return fault_of_names(opcode, body, shown)
     if opcode == WRITE:
         size = struct.unpack_from("<I", body, 16)[0] if len(body) >= 40 else -1
         return 0 if size == len(body) - 40 and size <= 65536 else EINVAL
@@ -100,8 +113,8 @@ def fault_of(opcode, body, links=False):
 class Due:
     """A reply that is due: the error that it must have, or None where the server decides."""
 
-    def __init__(self, opcode, unique, node, error, body, links=False):
-        self.opcode, self.unique, self.node, self.error, self.body, self.links = opcode, unique, node, error, body, links
+    def __init__(self, opcode, unique, node, error, body, shown):
+        self.opcode, self.unique, self.node, self.error, self.body, self.shown = opcode, unique, node, error, body, shown
 
     def wrong(self, error, body):
         """What is wrong about a reply, or None."""
@@ -125,7 +138,7 @@ class Due:
         mode = struct.unpack_from("<I", body, at + 60)[0] if at else None
         if self.opcode == LINK and mode == 0o40755:
             return "a folder with a further name"
-        return f"a mode of {mode:o}" if mode is not None and mode not in (ALL_MODES if self.links else PLAIN_MODES) else None
+        return f"a mode of {mode:o}" if mode is not None and mode not in (ALL_MODES if self.shown.links else PLAIN_MODES) else None
 
     def wrong_bytes(self, body):
         if self.opcode == READLINK:
@@ -133,12 +146,12 @@ class Due:
         size, = struct.unpack_from("<I", self.body, 16)
         if len(body) > size:
             return "more bytes than were asked for"
-        return None if self.opcode == READ else wrong_page(body, 128 if self.opcode == READDIRPLUS else 0, ALL_KINDS if self.links else PLAIN_KINDS)
+        return None if self.opcode == READ else wrong_page(body, 128 if self.opcode == READDIRPLUS else 0, self.shown)
 
 
-def wrong_page(body, skip, kinds):
-    """What is wrong about a page of a folder, or None; that many bytes stand before each of its entries, whose kinds are these."""
-    at = 0
+def wrong_page(body, skip, shown):
+    """What is wrong about a page of a folder, or None; that many bytes stand before each of its entries."""
+    at, kinds = 0, ALL_KINDS if shown.links else PLAIN_KINDS
     while at < len(body):
         if at + skip + 24 > len(body):
             return "a page that ends in an entry"
@@ -147,16 +160,16 @@ def wrong_page(body, skip, kinds):
         at += (skip + 24 + length + 7) // 8 * 8
         if at > len(body) or kind not in kinds:
             return "an entry of a page that is cut, or of a kind that is none"
-        if name not in (b".", b"..") and (fault_of_name(name) or name.startswith(b".fuse_hidden")):
+        if name not in (b".", b"..") and (fault_of_name(name, shown) or name.startswith(b".fuse_hidden")):
             return f"the name {name!r} in a page"
     return None
 
 
 class Model:
-    """What a stream was and what is due for it; whether links are shown. `ended` is None, "destroyed", or the length that no frame has."""
+    """What a stream was and what is due for it, where this is shown. `ended` is None, "destroyed", or the length that no frame has."""
 
-    def __init__(self, links=False):
-        self.links = links
+    def __init__(self, shown=Shown()):
+        self.shown = shown
         self.rest, self.due, self.agreed, self.ended, self.frames = b"", [], False, None, 0
 
     def feed(self, piece):
@@ -177,12 +190,12 @@ class Model:
         if opcode in SILENT:
             return
         if opcode == INIT:
-            self.due.append(Due(opcode, unique, node, self.offer(body), body, self.links))
+            self.due.append(Due(opcode, unique, node, self.offer(body), body, self.shown))
             return
-        error = fault_of(opcode, body, self.links) if self.agreed else EIO
+        error = fault_of(opcode, body, self.shown) if self.agreed else EIO
         if opcode == DESTROY and not error:
             self.ended = "destroyed"
-        self.due.append(Due(opcode, unique, node, 0 if opcode in (DESTROY, STATFS) and not error else error or None, body, self.links))
+        self.due.append(Due(opcode, unique, node, 0 if opcode in (DESTROY, STATFS) and not error else error or None, body, self.shown))
 
     def offer(self, body):
         """The error of an INIT."""

@@ -10,15 +10,16 @@ _mirrord() {
         --socket) compopt -o filenames; mapfile -t COMPREPLY < <(compgen -f -- "$word"); return ;;
         --workers) mapfile -t COMPREPLY < <(compgen -W "1 2 3 4" -- "$word"); return ;;
         --kinds) mapfile -t COMPREPLY < <(compgen -W "files all" -- "$word"); return ;;
+        --names) mapfile -t COMPREPLY < <(compgen -W "text bytes" -- "$word"); return ;;
         --attributes) mapfile -t COMPREPLY < <(compgen -W "fixed host" -- "$word"); return ;;
         --counts) mapfile -t COMPREPLY < <(compgen -W "bounded free" -- "$word"); return ;;
         --uid|--gid|--nodes|--files|--requests|--postings) return ;;
     esac
     case $COMP_CWORD,${COMP_WORDS[1]} in
         1,*) words="serve pipe device hex -h --help --version" ;;
-        *,serve) words="--root --socket --workers -s --single --kinds --attributes --uid --gid --nodes --files --requests --counts --postings -h --help" ;;
-        *,pipe) words="--root --kinds --attributes --uid --gid --nodes --files --requests --counts --postings -h --help" ;;
-        *,device) words="--root --workers -s --single --kinds --attributes --uid --gid --nodes --files --requests --counts --postings -h --help" ;;
+        *,serve) words="--root --socket --workers -s --single --kinds --names --attributes --uid --gid --nodes --files --requests --counts --postings -h --help" ;;
+        *,pipe) words="--root --kinds --names --attributes --uid --gid --nodes --files --requests --counts --postings -h --help" ;;
+        *,device) words="--root --workers -s --single --kinds --names --attributes --uid --gid --nodes --files --requests --counts --postings -h --help" ;;
         *,hex) words="--sample --kinds --postings -h --help" ;;
         *) return ;;
     esac

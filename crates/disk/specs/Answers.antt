@@ -199,9 +199,20 @@ Renames at old s t (Err NotEmpty) at' new = IsFolderItem (at s) × IsFolderItem 
 Renames at old s t (Err (Failed errno)) at' new = Stays at old at' new ⊎ Moves at old s t at' new
 Renames at old s t (Err error) at' new = Stays at old at' new
 
--- A further name for what stands at s. In a tree of paths nothing has two names, so this is never done.
+-- the same tree, except that at t is what is at s
+abbrev pub with_further : Tree → Names → Names → Tree
+with_further at s t = λ q. if is_path t q then at s else at q
+
+-- What stands at s, which is no folder, stands at t as well, where nothing stood.
+pub record AddsName (at : Tree) (s t : Names) (at' : Tree) : Type 0 where
+  pub other : IsOther (at s)
+  pub free : at t ≡ None
+  pub tree : at' ≡ with_further at s t
+
+-- A further name for what stands at s. The tree shows it; but in a tree of paths nothing has two names, so what is open need stand nowhere
+-- from then on.
 abbrev pub Links : {H : Type 0} → Tree → (H → Names → Type 0) → Names → Names → Result (Unit {0}) DiskError → Tree → (H → Names → Type 0) → Type 0
-Links at old s t (Ok done) at' new = ⊥
+Links at old s t (Ok done) at' new = AddsName at s t at'
 Links at old s t (Err Absent) at' new = (at s ≡ None) × Stays at old at' new
 Links at old s t (Err Exists) at' new = IsSome (at s) × IsSome (at t) × Stays at old at' new
 Links at old s t (Err error) at' new = Stays at old at' new

@@ -33,7 +33,7 @@ pub trait Disk {
     /// What stands at that path was brought to the disk.
     ghost has_synced: { Self → Names → Type 0 };
 
-    /// The system does what it says, and nobody else changes the folder.
+    /// The system does what it says, nobody else changes the folder, and nothing in it has two names at first.
     ghost honest: { Type 0 };
 
     /// Where memory comes from.
@@ -194,7 +194,7 @@ pub trait Disk {
         ensures { (up up' : Names) → stands self.old from_dir.now up → stands self.old to_dir.now up' → AreApart (up ++ from.now ∷ []) (up' ++ to.now ∷ []) → Renames (tree self.old) (stands self.old) (up ++ from.now ∷ []) (up' ++ to.now ∷ []) result (tree self.new) (stands self.new) };
 
     /// Gives what stands at the one name a further one, at which nothing stands: `linkat`. A link at the name is not followed, and has
-    /// two names then itself.
+    /// two names then itself. Once it is given what is open need stand nowhere: no tree of paths says which writes show at both names.
     fn link(
         &mut self,
         from_dir: &Self::Handle,
@@ -208,9 +208,4 @@ pub trait Disk {
 
     /// What stands below the folder is a tree.
     ghost is_tree: { (disk : Self) → IsTree (tree disk) };
-}
-
-/// A system that does what it says, below a folder that nobody else changes.
-pub trait HonestDisk: Disk {
-    ghost is_honest: { Self.honest };
 }

@@ -19,7 +19,7 @@ mod system;
 mod unknown;
 mod writing;
 
-pub use disk::{Disk, HonestDisk};
+pub use disk::Disk;
 pub use error::DiskError;
 pub use memory::MemoryDisk;
 pub use names::is_lawful;

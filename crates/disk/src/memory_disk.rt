@@ -1,6 +1,6 @@
 //! The disk in memory as a disk.
 
-use crate::disk::{Disk, HonestDisk};
+use crate::disk::Disk;
 use crate::error::DiskError;
 use crate::memory::MemoryDisk;
 use crate::schedule::ended;
@@ -310,8 +310,4 @@ impl Disk for MemoryDisk {
             Err(error) => Err(error),
         }
     }
-}
-
-impl HonestDisk for MemoryDisk {
-    ghost is_honest = { tt };
 }

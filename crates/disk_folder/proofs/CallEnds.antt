@@ -12,13 +12,11 @@ use Rattle.backing.specs.declared.told.Told.{Told}
 use Rattle.backing.specs.Tree.{Tree}
 use Rattle.backing.specs.Calls.{Asked, Does}
 use Rattle.backing.specs.Device.{Sound, Before as Early, Within as Part, After as Late, Counted, counted, one_if}
-use Rattle.disk.specs.declared.stat.Change.{Change}
 use Rattle.disk_folder.specs.declared.trouble.Trouble.{Trouble}
 use Rattle.disk_folder.specs.declared.trouble.Trouble.TheVariants.{Refused, Failed}
-use Rattle.disk_folder.specs.Attributes.{Lasts}
 use Rattle.disk_folder.specs.Ends.{Ends, Fails, Before, Within, After}
 use Rattle.disk_folder.specs.Explained.{Follows, IsUnserved}
-use Rattle.disk_folder.specs.Gives.{IsTold}
+use Rattle.disk_folder.specs.Gives.{IsTold, IsUnlinked, is_granted}
 use Rattle.disk_folder.specs.Troubles.{reason_errno}
 
 counts_as : (before after : ℕ) (told failed : Bool) → after ≡ counted before (one_if told) → told ≡ failed → after ≡ counted before (one_if failed)
@@ -46,11 +44,11 @@ known_of old new before after call (Err (Failed errno)) told answer is same coun
 no_fault : (errno : ℤ) → Done ≡ Fault errno → ⊥
 no_fault errno e = cc
 
--- what is done lasts
-pub lasts_of : (has_set : Names → Change → Type 0) (has_synced : Names → Type 0) (call : Asked) (ended : Result Answer Trouble) (told : Told) (answer : Answer) → IsTold ended told → answer ≡ told.answer → answer ≡ Done → IfOk ended (λ own. Lasts has_set has_synced call) → Lasts has_set has_synced call
-lasts_of has_set has_synced call (Ok own) told answer is same done lasts = lasts
-lasts_of has_set has_synced call (Err (Refused reason)) told answer is same done lasts = absurd (no_fault (reason_errno reason) (sym done ∙ (same ∙ is)))
-lasts_of has_set has_synced call (Err (Failed errno)) told answer is same done lasts = absurd (no_fault errno (sym done ∙ (same ∙ is.0)))
+-- what holds of a call that is done
+pub done_of : (P : Type 0) (ended : Result Answer Trouble) (told : Told) (answer : Answer) → IsTold ended told → answer ≡ told.answer → answer ≡ Done → IfOk ended (λ own. P) → P
+done_of P (Ok own) told answer is same done holds = holds
+done_of P (Err (Refused reason)) told answer is same done holds = absurd (no_fault (reason_errno reason) (sym done ∙ (same ∙ is)))
+done_of P (Err (Failed errno)) told answer is same done holds = absurd (no_fault errno (sym done ∙ (same ∙ is.0)))
 
 -- what is kept still stands where some of it was closed
 pub stand_room : {H : Type 0} (at : Tree) (stands : H → Names → Type 0) (old new : OpenCache H) → ((p : Names) → (kept_at new.cache p ≡ kept_at old.cache p) ⊎ (kept_at new.cache p ≡ None)) → AllStand at stands old → AllStand at stands new
@@ -70,3 +68,8 @@ follows_told call told answer same follows = subst (λ (a : Answer). Follows cal
 
 pub unserved_told : (call : Asked) (told : Told) (answer : Answer) → answer ≡ told.answer → IsUnserved call told.failed told.answer → IsUnserved call told.failed answer
 unserved_told call told answer same unserved = subst (λ (a : Answer). IsUnserved call told.failed a) (sym same) unserved
+
+-- what was told is no LINK that was granted
+pub unlinked : (call : Asked) (ended : Result Answer Trouble) (told : Told) (answer : Answer) → IsTold ended told → answer ≡ told.answer → is_granted call answer ≡ false → IsUnlinked call ended
+unlinked call (Ok own) told answer is same none = subst (λ (a : Answer). is_granted call a ≡ false) (same ∙ is.0) none
+unlinked call (Err trouble) told answer is same none = tt

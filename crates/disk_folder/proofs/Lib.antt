@@ -4,6 +4,7 @@ mod FindLemmas
 pub mod WayLemmas
 pub mod SeenLemmas
 pub mod ListLemmas
+mod OrderLemmas
 pub mod PartLemmas
 pub mod FileEnds
 pub mod KeptCases

@@ -2,9 +2,7 @@
 use Rattle.std.proofs.Common.{ℕ, ℤ, Result, Ok, Err, IfOk, IfErr, ◌≡◌, ◌<◌, ◌+◌, length-append, if◌then◌else◌, ◌||◌, suc, zero, Bool, true, false, List, [], ◌∷◌, ◌++◌, Option, Some, None, is_some, length, map, take, get_or, refl, sym, ap, ◌∙◌, subst, arith, inl, inr}
 use Rattle.std.specs.Option.{option_map}
 use Rattle.std.specs.List.{All, AllByRecursion}
-use Rattle.std.specs.List.Sorted.{IsPermutation}
 use Rattle.std.proofs.lemmas.Bool.{true≢false, cases_eq}
-use Rattle.std.proofs.lemmas.List.Sorted.{All-permutation}
 use Rattle.std.proofs.lemmas.List.Elements.{All-from_recursion}
 use Rattle.std.proofs.lemmas.List.{take-append-le}
 use Rattle.std.proofs.lemmas.List.{take_more, map-append}
@@ -104,10 +102,9 @@ recursion : (at : Tree) (p : Names) (seen : List SeenName) → EachSeen at p see
 recursion at p [] each = tt
 recursion at p (one ∷ seen) each = (each.0, recursion at p seen each.1)
 
--- what was seen is so in any order
-pub seen_sorted : (at : Tree) (p : Names) (seen sorted : List SeenName) → IsPermutation seen sorted → EachSeen at p seen → All (λ (one : SeenName). IsSeen at (p ++ one.name ∷ []) one.seen) sorted
-seen_sorted at p seen sorted moves each =
-    All-permutation (λ (one : SeenName). IsSeen at (p ++ one.name ∷ []) one.seen) seen sorted moves (All-from_recursion (λ (one : SeenName). IsSeen at (p ++ one.name ∷ []) one.seen) seen (recursion at p seen each))
+-- what was seen at each name stands there
+pub all_seen : (at : Tree) (p : Names) (seen : List SeenName) → EachSeen at p seen → All (λ (one : SeenName). IsSeen at (p ++ one.name ∷ []) one.seen) seen
+all_seen at p seen each = All-from_recursion (λ (one : SeenName). IsSeen at (p ++ one.name ∷ []) one.seen) seen (recursion at p seen each)
 
 -- the names in a folder are told
 pub list_ends : (at : Tree) (path : Names) (seen : List SeenName) (result : Result Answer Trouble) → IsTree at → IsListing at path seen → IfOk result (λ answer. answer ≡ NamesAre (children_of seen)) → IfErr result IsFailure → Ends at (AskList path) result at

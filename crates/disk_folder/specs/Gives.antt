@@ -1,12 +1,13 @@
 -- What the calls of a folder give, for a disk of which nothing is known, and for an honest one.
-use Rattle.std.specs.Prelude.{ℕ, ◌≡◌, true, false, Result, Ok, Err, None}
+use Rattle.std.specs.Prelude.{ℕ, ◌≡◌, ◌||◌, Bool, true, false, Result, Ok, Err, None}
 use Rattle.paths.specs.Prefixes.{Names}
 use Rattle.backing.specs.declared.call.Answer.{Answer}
 use Rattle.backing.specs.declared.call.Answer.TheVariants.{Done, Fault}
 use Rattle.backing.specs.declared.told.Told.{Told}
-use Rattle.backing.specs.Calls.{Asked, AskExchange}
+use Rattle.backing.specs.Calls.{Asked, AskExchange, AskLink}
 use Rattle.backing.specs.Device.{Counted}
 use Rattle.backing.specs.Tree.{Tree}
+use Rattle.disk.specs.Answers.{AddsName}
 use Rattle.disk.specs.declared.stat.Change.{Change}
 use Rattle.disk_folder.specs.declared.trouble.Trouble.{Trouble}
 use Rattle.disk_folder.specs.declared.trouble.Trouble.TheVariants.{Refused, Failed}
@@ -25,12 +26,34 @@ pub record Claims (D : Type 0) : Type 1 where
 abbrev pub claims : {D : Type 0} → Type 0 → (D → Tree) → (D → Names → Change → Type 0) → (D → Names → Type 0) → Claims D
 claims honest tree has_set has_synced = record { honest = honest; tree = tree; has_set = has_set; has_synced = has_synced }
 
--- A call of a folder, which is a disk and how many calls have failed. It tells what any folder may. Over an honest disk it is a call on
--- the tree that stands in the folder, through a device that may fail; and what is told to be set, or to be brought to the disk, is.
-pub record Gives {D : Type 0} (disk : Claims D) (old : D × ℕ) (call : Asked) (answer : Answer) (new : D × ℕ) : Type 0 where
+-- whether the call is a LINK that was granted
+abbrev pub is_granted : Asked → Answer → Bool
+is_granted (AskLink s t) Done = true
+is_granted call answer = false
+
+-- It is none.
+abbrev pub IsUnlinked : Asked → Result Answer Trouble → Type 0
+IsUnlinked call (Ok answer) = is_granted call answer ≡ false
+IsUnlinked call (Err trouble) = Unit {0}
+
+-- what a LINK that is granted does to the tree
+abbrev pub Granted : Tree → Asked → Tree → Type 0
+Granted old (AskLink s t) new = AddsName old s t new
+Granted old call new = Unit {0}
+
+-- A folder is a disk, how many calls have failed, and whether a LINK was granted.
+abbrev pub IsNew : {D : Type 0} → D × ℕ × Bool → Type 0
+IsNew folder = (folder.1 ≡ 0) × (folder.2 ≡ false)
+
+-- A call of a folder. It tells what any folder may. Over an honest disk, as long as no LINK was granted, it is a call on the tree that
+-- stands in the folder, through a device that may fail; what is told to be set, or to be brought to the disk, is; and the first LINK that
+-- is granted shows what stands at the one path at the other one too.
+pub record Gives {D : Type 0} (disk : Claims D) (old : D × ℕ × Bool) (call : Asked) (answer : Answer) (new : D × ℕ × Bool) : Type 0 where
   pub tells : Tells old.1 call answer new.1
-  pub known : disk.honest → Counted None (disk.tree old.0) old.1 call answer (disk.tree new.0) new.1
-  pub lasts : disk.honest → answer ≡ Done → Lasts (disk.has_set new.0) (disk.has_synced new.0) call
+  pub linked : new.2 ≡ (old.2 || is_granted call answer)
+  pub known : disk.honest → new.2 ≡ false → Counted None (disk.tree old.0) old.1 call answer (disk.tree new.0) new.1
+  pub lasts : disk.honest → new.2 ≡ false → answer ≡ Done → Lasts (disk.has_set new.0) (disk.has_synced new.0) call
+  pub granted : disk.honest → old.2 ≡ false → answer ≡ Done → Granted (disk.tree old.0) call (disk.tree new.0)
 
 -- the answer, and whether it is a failure: a refusal may be told as one
 abbrev pub IsTold : Result Answer Trouble → Told → Type 0

@@ -9,7 +9,7 @@ ghost use Rattle.disk_folder.specs.Ends.{Ends};
 ghost use Rattle.backing.specs.declared.call.Answer.TheVariants.{Fault};
 ghost use Rattle.disk_folder.specs.Explained.{Follows, IsUnserved};
 ghost use Rattle.disk_folder.specs.Troubles.{reason_errno};
-ghost use Rattle.disk_folder.specs.Gives.{IsTold, IsUndone};
+ghost use Rattle.disk_folder.specs.Gives.{Granted, IsTold, IsUndone, IsUnlinked, is_granted};
 ghost use Rattle.disk_folder.specs.Remembered.{IsListed};
 ghost use Rattle.disk_folder.specs.Standing.{AllStand};
 ghost use Rattle.disk_folder.specs.Suits.{Suits};
@@ -94,10 +94,11 @@ pub fn perform<D: Disk>(
 ) -> Result<Answer, Trouble>
     ensures suits { IfOk result (Suits (asked call.entry)) }
     ensures undone { IsUndone (asked call.entry) result }
-    ensures ends { AllStand (D.tree disk.old) (D.stands disk.old) cache.old → IsListed (D.tree disk.old) listed.old → Ends (D.tree disk.old) (asked call.entry) result (D.tree disk.new) }
-    ensures stand { AllStand (D.tree disk.old) (D.stands disk.old) cache.old → AllStand (D.tree disk.new) (D.stands disk.new) cache.new }
-    ensures listed { AllStand (D.tree disk.old) (D.stands disk.old) cache.old → IsListed (D.tree disk.old) listed.old → IsListed (D.tree disk.new) listed.new }
-    ensures lasts { AllStand (D.tree disk.old) (D.stands disk.old) cache.old → IfOk result (λ _. Lasts (D.has_set disk.new) (D.has_synced disk.new) (asked call.entry)) }
+    ensures ends { IsUnlinked (asked call.entry) result → AllStand (D.tree disk.old) (D.stands disk.old) cache.old → IsListed (D.tree disk.old) listed.old → Ends (D.tree disk.old) (asked call.entry) result (D.tree disk.new) }
+    ensures stand { IsUnlinked (asked call.entry) result → AllStand (D.tree disk.old) (D.stands disk.old) cache.old → AllStand (D.tree disk.new) (D.stands disk.new) cache.new }
+    ensures listed { IsUnlinked (asked call.entry) result → AllStand (D.tree disk.old) (D.stands disk.old) cache.old → IsListed (D.tree disk.old) listed.old → IsListed (D.tree disk.new) listed.new }
+    ensures lasts { IsUnlinked (asked call.entry) result → AllStand (D.tree disk.old) (D.stands disk.old) cache.old → IfOk result (λ _. Lasts (D.has_set disk.new) (D.has_synced disk.new) (asked call.entry)) }
+    ensures granted { AllStand (D.tree disk.old) (D.stands disk.old) cache.old → IfOk result (λ _. Granted (D.tree disk.old) (asked call.entry) (D.tree disk.new)) }
 {
     match call {
         Call::Stat(path) => stat(disk, cache, listed, path),
@@ -121,9 +122,10 @@ fn perform_change<D: Disk>(
 ) -> Result<Answer, Trouble>
     ensures suits { IfOk result (Suits (asked call.entry)) }
     ensures undone { IsUndone (asked call.entry) result }
-    ensures ends { AllStand (D.tree disk.old) (D.stands disk.old) cache.old → Ends (D.tree disk.old) (asked call.entry) result (D.tree disk.new) }
-    ensures stand { AllStand (D.tree disk.old) (D.stands disk.old) cache.old → AllStand (D.tree disk.new) (D.stands disk.new) cache.new }
-    ensures lasts { AllStand (D.tree disk.old) (D.stands disk.old) cache.old → IfOk result (λ _. Lasts (D.has_set disk.new) (D.has_synced disk.new) (asked call.entry)) }
+    ensures ends { IsUnlinked (asked call.entry) result → AllStand (D.tree disk.old) (D.stands disk.old) cache.old → Ends (D.tree disk.old) (asked call.entry) result (D.tree disk.new) }
+    ensures stand { IsUnlinked (asked call.entry) result → AllStand (D.tree disk.old) (D.stands disk.old) cache.old → AllStand (D.tree disk.new) (D.stands disk.new) cache.new }
+    ensures lasts { IsUnlinked (asked call.entry) result → AllStand (D.tree disk.old) (D.stands disk.old) cache.old → IfOk result (λ _. Lasts (D.has_set disk.new) (D.has_synced disk.new) (asked call.entry)) }
+    ensures granted { AllStand (D.tree disk.old) (D.stands disk.old) cache.old → IfOk result (λ _. Granted (D.tree disk.old) (asked call.entry) (D.tree disk.new)) }
 {
     match call {
         Call::MakeDir { path, permissions } => make_dir(disk, cache, path, permissions),
@@ -146,6 +148,13 @@ fn perform_change<D: Disk>(
         } => set(disk, cache, path, Change::Times { accessed, modified }),
         _ => Err(Trouble::Failed(EINVAL)),
     }
+}
+
+/// Whether it gave what stands somewhere a further name.
+pub fn is_granted(call: Call<'_>, answer: &Answer) -> bool
+    ensures { result ≡ is_granted (asked call.entry) answer.now }
+{
+    matches!(call, Call::Link { .. }) && matches!(answer, Answer::Done)
 }
 
 /// What is told of it: no failure where the call was done, or where what was found explains its error.

@@ -27,6 +27,9 @@ use payload::{HEADER_ROOM, Kind, Payload};
 use std::alloc::{AllocError, Global};
 use std::mem::replace;
 
+/// Fewer bytes than so many are copied in less time than a buffer is made anew.
+const FEW: usize = 1024;
+
 /// No file of the system is longer, in bytes.
 const LONGEST: u64 = i64::MAX as u64;
 
@@ -40,10 +43,31 @@ fn buffer_of(alloc: Global, spare: &mut Vec<u8>, len: usize) -> Result<Vec<u8>, 
     vec![in alloc; 0u8; len]
 }
 
+/// So many bytes of what was read behind the room. A few of them are copied, and the buffer is kept: to clear another one takes longer.
+fn cut(
+    alloc: Global,
+    spare: &mut Vec<u8>,
+    mut buffer: Vec<u8>,
+    count: usize,
+) -> Result<Payload, AllocError>
+    requires { HEADER_ROOM + count ≤ length buffer.items }
+    ensures { IfOk result (λ payload. payload ≡ take count (drop HEADER_ROOM buffer.items)) }
+{
+    if count < FEW {
+        let mut few = Vec::with_capacity(alloc, count)?;
+        few.extend_from_slice(&buffer[HEADER_ROOM..HEADER_ROOM + count])?;
+        *spare = buffer;
+        return Ok(Payload::new(few));
+    }
+    buffer.truncate(HEADER_ROOM + count);
+    Ok(Payload::behind(HEADER_ROOM, buffer))
+}
+
 /// Reads into the buffer behind the room, and cuts it where the file ends.
 fn read_behind<D: Disk>(
     disk: &D,
     file: &D::Handle,
+    spare: &mut Vec<u8>,
     mut buffer: Vec<u8>,
     offset: u64,
 ) -> Result<Answer, Trouble>
@@ -55,8 +79,8 @@ fn read_behind<D: Disk>(
 {
     match read_all(disk, file, &mut buffer[HEADER_ROOM..], offset) {
         Ok(count) => {
-            buffer.truncate(HEADER_ROOM + count);
-            Ok(Answer::Bytes(Payload::behind(HEADER_ROOM, buffer)))
+            let bytes = cut(disk.alloc(), spare, buffer, count)?;
+            Ok(Answer::Bytes(bytes))
         }
         Err(trouble) => Err(trouble),
     }
@@ -96,7 +120,7 @@ fn read_open<D: Disk>(
         return read_past(disk, file, offset);
     }
     let buffer = buffer_of(disk.alloc(), spare, HEADER_ROOM + size as usize)?;
-    read_behind(disk, file, buffer, offset)
+    read_behind(disk, file, spare, buffer, offset)
 }
 
 /// Reads the file: one call of the system where it is kept open and gives all at once.

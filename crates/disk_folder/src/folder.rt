@@ -1,6 +1,6 @@
 //! A folder of a disk.
 
-ghost use Rattle.std.specs.Prelude.{ℕ, ◌≡◌, ◌⊎◌, None, IfOk};
+ghost use Rattle.std.specs.Prelude.{ℕ, ◌≡◌, ◌⊎◌, false, None, IfOk};
 ghost use Rattle.backing.specs.Calls.{asked};
 ghost use Rattle.disk_folder.specs.Attributes.{Lasts};
 ghost use Rattle.disk_folder.specs.Ends.{Ends};
@@ -8,12 +8,12 @@ ghost use Rattle.disk_folder.specs.Remembered.{IsListed};
 ghost use Rattle.disk_folder.specs.Standing.{AllStand};
 ghost use Rattle.disk_folder.specs.Suits.{Suits};
 
-use crate::calling::{begin, conclude, note_own, perform};
+use crate::calling::{begin, conclude, is_granted, note_own, perform};
 use crate::listed::Listed;
 use crate::open_cache::OpenCache;
 use crate::opened::Open;
-use backing::{Answer, Call, Calls, KnownTree};
-use disk::{Access, Disk, DiskError, HonestDisk};
+use backing::{Answer, Call, Calls};
+use disk::{Access, Disk, DiskError};
 use errno::ENOMEM;
 use path_cache::PathCache;
 use payload::Kind;
@@ -29,7 +29,7 @@ const WORTH_KEEPING: usize = 1024;
 /// It shows what the disk shows: that of which the disk shows no kind is absent to it, wherever it stands in a path. A symbolic link
 /// is read as its text, and never followed; a pipe, a socket or a device is never opened. Each call goes down from open folder to open
 /// folder, each by one name. Folders and files that were come to stay open in a cache, the least recently used of which are closed for
-/// room. A folder there is used as it is for a second after a look has shown it under its name, and then after one more look, unless
+/// room: a folder counts as used when it is looked at, which is once a second. A folder there is used as it is for a second after a look has shown it under its name, and then after one more look, unless
 /// others who serve the same folder have moved or removed a folder since. A file there is used without a look.
 ///
 /// What a list has looked at is told again to the calls that follow it, for a tenth of a second and as long as nothing is changed.
@@ -45,18 +45,20 @@ pub struct Folder<D: Disk + Drop> {
     /// A buffer for the next read of as many bytes. What stands in it is overwritten.
     spare: Vec<u8>,
     failures: u64,
+    /// A LINK was granted: something has two names, so that no tree of paths says what stands in the folder.
+    linked: bool,
 }
 
 impl<D: Disk + Drop> Model for Folder<D> {
-    ghost use Rattle.std.specs.Prelude.{ℕ};
+    ghost use Rattle.std.specs.Prelude.{ℕ, ◌≡◌, Bool, false};
     ghost use Rattle.disk_folder.specs.Remembered.{IsListed};
     ghost use Rattle.disk_folder.specs.Standing.{AllStand};
 
-    ghost Value = { D × ℕ };
+    ghost Value = { D × ℕ × Bool };
 
-    ghost view = { λ f. (f.disk, f.failures) };
+    ghost view = { λ f. (f.disk, f.failures, f.linked) };
 
-    ghost invariant = { λ f. D.honest → AllStand (D.tree f.disk) (D.stands f.disk) f.cache × IsListed (D.tree f.disk) f.listed };
+    ghost invariant = { λ f. D.honest → f.linked ≡ false → AllStand (D.tree f.disk) (D.stands f.disk) f.cache × IsListed (D.tree f.disk) f.listed };
 }
 
 /// What is kept open of the disk at first: its folder.
@@ -90,7 +92,7 @@ fn root_cache<D: Disk>(
 impl<D: Disk + Drop> Folder<D> {
     /// The folder of the disk. It keeps so many files and folders open at most, besides that one, and hashes by that seed.
     pub fn new(disk: D, capacity: usize, seed: RandomState) -> Result<Folder<D>, DiskError>
-        ensures { IfOk result (λ folder. folder ≡ (disk, 0)) }
+        ensures { IfOk result (λ folder. folder ≡ (disk, 0, false)) }
     {
         let cache = root_cache(&disk, capacity, seed)?;
         let spare = Vec::new(disk.alloc());
@@ -100,6 +102,7 @@ impl<D: Disk + Drop> Folder<D> {
             listed: None,
             spare,
             failures: 0,
+            linked: false,
         })
     }
 
@@ -131,7 +134,10 @@ impl<D: Disk + Drop> Calls for Folder<D> {
             call,
         );
         note_own(&self.disk, &mut self.cache, call, &ended);
-        conclude(call, ended).into_answer(&mut self.failures)
+        let answer = conclude(call, ended).into_answer(&mut self.failures);
+        let granted = is_granted(call, &answer);
+        self.linked = self.linked | granted;
+        answer
     }
 
     /// A long one is kept, in the place of the one before it. An empty one is left, since to clear a long one would take a while: the
@@ -141,14 +147,4 @@ impl<D: Disk + Drop> Calls for Folder<D> {
             self.spare = replace(buffer, Vec::new(self.disk.alloc()));
         }
     }
-}
-
-impl<D: HonestDisk + Drop> KnownTree for Folder<D> {
-    ghost tree = { λ folder. D.tree folder.0 };
-
-    ghost limit = { None };
-
-    ghost known = { λ old new call answer given. given.known D.is_honest };
-
-    ghost stands = { λ old new call answer given. (D.is_tree old.0, D.is_tree new.0) };
 }

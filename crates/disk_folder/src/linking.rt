@@ -8,6 +8,8 @@ ghost use Rattle.backing.specs.Checks.{present_tests};
 ghost use Rattle.backing.specs.Tree.{Resolves};
 ghost use Rattle.disk_folder.specs.Changes.{IsWhyNotLinked};
 ghost use Rattle.disk_folder.specs.Ends.{Ends, IsRefused};
+ghost use Rattle.disk_folder.specs.Gives.{IsUnlinked};
+ghost use Rattle.disk.specs.Answers.{AddsName};
 ghost use Rattle.disk_folder.specs.Standing.{AllStand, IsEntry, IsFolderAt};
 ghost use Rattle.disk_folder.specs.Suits.{Suits};
 ghost use Rattle.disk_folder.specs.Troubles.{IsStopped};
@@ -49,8 +51,9 @@ fn link_in<D: Disk>(
     requires source { IsEntry cache.old source.now }
     requires target { IsEntry cache.old target.now }
     ensures suits { IfOk result (λ answer. answer ≡ Done) }
-    ensures ends { (up up' : Names) → IsFolderAt (D.tree disk.old) (D.stands disk.old) cache.old source.now.folder up → IsFolderAt (D.tree disk.old) (D.stands disk.old) cache.old target.now.folder up' → Ends (D.tree disk.old) (AskLink (up ++ source.now.name.now ∷ []) (up' ++ target.now.name.now ∷ [])) result (D.tree disk.new) }
-    ensures stand { (up up' : Names) → IsFolderAt (D.tree disk.old) (D.stands disk.old) cache.old source.now.folder up → IsFolderAt (D.tree disk.old) (D.stands disk.old) cache.old target.now.folder up' → AllStand (D.tree disk.new) (D.stands disk.new) cache.new }
+    ensures ends { (up up' : Names) → IsFolderAt (D.tree disk.old) (D.stands disk.old) cache.old source.now.folder up → IsFolderAt (D.tree disk.old) (D.stands disk.old) cache.old target.now.folder up' → IsUnlinked (AskLink (up ++ source.now.name.now ∷ []) (up' ++ target.now.name.now ∷ [])) result → Ends (D.tree disk.old) (AskLink (up ++ source.now.name.now ∷ []) (up' ++ target.now.name.now ∷ [])) result (D.tree disk.new) }
+    ensures stand { (up up' : Names) → IsFolderAt (D.tree disk.old) (D.stands disk.old) cache.old source.now.folder up → IsFolderAt (D.tree disk.old) (D.stands disk.old) cache.old target.now.folder up' → IsUnlinked (AskLink (up ++ source.now.name.now ∷ []) (up' ++ target.now.name.now ∷ [])) result → AllStand (D.tree disk.new) (D.stands disk.new) cache.new }
+    ensures granted { (up up' : Names) → IsFolderAt (D.tree disk.old) (D.stands disk.old) cache.old source.now.folder up → IsFolderAt (D.tree disk.old) (D.stands disk.old) cache.old target.now.folder up' → IfOk result (λ _. AddsName (D.tree disk.old) (up ++ source.now.name.now ∷ []) (up' ++ target.now.name.now ∷ []) (D.tree disk.new)) }
 {
     match disk.link(
         &cache.open(&source.folder).handle,
@@ -74,8 +77,9 @@ fn link_both<D: Disk>(
     to: &Path,
 ) -> Result<Answer, Trouble>
     ensures suits { IfOk result (λ answer. answer ≡ Done) }
-    ensures ends { AllStand (D.tree disk.old) (D.stands disk.old) cache.old → Resolves (D.tree disk.old) to.now → Ends (D.tree disk.old) (AskLink from.now to.now) result (D.tree disk.new) }
-    ensures stand { AllStand (D.tree disk.old) (D.stands disk.old) cache.old → Resolves (D.tree disk.old) to.now → AllStand (D.tree disk.new) (D.stands disk.new) cache.new }
+    ensures ends { AllStand (D.tree disk.old) (D.stands disk.old) cache.old → Resolves (D.tree disk.old) to.now → IsUnlinked (AskLink from.now to.now) result → Ends (D.tree disk.old) (AskLink from.now to.now) result (D.tree disk.new) }
+    ensures stand { AllStand (D.tree disk.old) (D.stands disk.old) cache.old → Resolves (D.tree disk.old) to.now → IsUnlinked (AskLink from.now to.now) result → AllStand (D.tree disk.new) (D.stands disk.new) cache.new }
+    ensures granted { AllStand (D.tree disk.old) (D.stands disk.old) cache.old → Resolves (D.tree disk.old) to.now → IfOk result (λ _. AddsName (D.tree disk.old) from.now to.now (D.tree disk.new)) }
 {
     match go_both(disk, cache, from, to) {
         Ok((source, target)) => link_in(disk, cache, &source, &target),
@@ -114,8 +118,9 @@ fn link_led<D: Disk>(
     requires below { from.now ≡ [] → ⊥ }
     requires below_too { to.now ≡ [] → ⊥ }
     ensures suits { IfOk result (λ answer. answer ≡ Done) }
-    ensures ends { AllStand (D.tree disk.old) (D.stands disk.old) cache.old → Resolves (D.tree disk.old) to.now → Ends (D.tree disk.old) (AskLink from.now to.now) result (D.tree disk.new) }
-    ensures stand { AllStand (D.tree disk.old) (D.stands disk.old) cache.old → Resolves (D.tree disk.old) to.now → AllStand (D.tree disk.new) (D.stands disk.new) cache.new }
+    ensures ends { AllStand (D.tree disk.old) (D.stands disk.old) cache.old → Resolves (D.tree disk.old) to.now → IsUnlinked (AskLink from.now to.now) result → Ends (D.tree disk.old) (AskLink from.now to.now) result (D.tree disk.new) }
+    ensures stand { AllStand (D.tree disk.old) (D.stands disk.old) cache.old → Resolves (D.tree disk.old) to.now → IsUnlinked (AskLink from.now to.now) result → AllStand (D.tree disk.new) (D.stands disk.new) cache.new }
+    ensures granted { AllStand (D.tree disk.old) (D.stands disk.old) cache.old → Resolves (D.tree disk.old) to.now → IfOk result (λ _. AddsName (D.tree disk.old) from.now to.now (D.tree disk.new)) }
 {
     match expect_source(disk, cache, from) {
         Ok(()) => link_both(disk, cache, from, to),
@@ -151,8 +156,9 @@ pub fn link<D: Disk>(
     to: &Path,
 ) -> Result<Answer, Trouble>
     ensures suits { IfOk result (Suits (AskLink from.now to.now)) }
-    ensures ends { AllStand (D.tree disk.old) (D.stands disk.old) cache.old → Ends (D.tree disk.old) (AskLink from.now to.now) result (D.tree disk.new) }
-    ensures stand { AllStand (D.tree disk.old) (D.stands disk.old) cache.old → AllStand (D.tree disk.new) (D.stands disk.new) cache.new }
+    ensures ends { AllStand (D.tree disk.old) (D.stands disk.old) cache.old → IsUnlinked (AskLink from.now to.now) result → Ends (D.tree disk.old) (AskLink from.now to.now) result (D.tree disk.new) }
+    ensures stand { AllStand (D.tree disk.old) (D.stands disk.old) cache.old → IsUnlinked (AskLink from.now to.now) result → AllStand (D.tree disk.new) (D.stands disk.new) cache.new }
+    ensures granted { AllStand (D.tree disk.old) (D.stands disk.old) cache.old → IfOk result (λ _. AddsName (D.tree disk.old) from.now to.now (D.tree disk.new)) }
 {
     if from.len() == 0 {
         return Err(Trouble::Refused(Reason::Root));

@@ -12,6 +12,7 @@ use crate::listing::{SeenName, add};
 use crate::look::Seen;
 use paths::{Name, Path};
 use std::alloc::Global;
+use std::cell::Cell;
 use std::cmp::Ordering;
 
 /// How long what was looked at is told without another look, in milliseconds.
@@ -24,6 +25,8 @@ pub struct Listed {
     pub path: Path,
     /// By rising bytes of the names.
     pub seen: Vec<SeenName>,
+    /// Where the name is that comes behind the one that was last told: a client asks for one after the other.
+    pub next: Cell<usize>,
     /// When the call was made that looked, in milliseconds by the disk's clock.
     pub time: u64,
     /// How often anything had been changed then.
@@ -32,14 +35,14 @@ pub struct Listed {
 
 /// By the bytes of their names.
 fn compare(one: &Name, other: &Name) -> Ordering {
-    one.as_str().as_bytes().cmp(other.as_str().as_bytes())
+    one.as_bytes().cmp(other.as_bytes())
 }
 
-/// Sorts by the bytes of the names. It takes no memory.
-pub fn sort(seen: &mut Vec<SeenName>)
-    ensures { IsPermutation seen.old.items seen.new.items }
+/// Sorts the names by their bytes. It takes no memory.
+pub fn sort(names: &mut Vec<Name>)
+    ensures { IsPermutation names.old.items names.new.items }
 {
-    seen.sort_unstable_by(|one, other| compare(&one.name, &other.name));
+    names.sort_unstable_by(|one, other| compare(one, other));
 }
 
 /// When a call was made, in milliseconds by the disk's clock, and how often anything had been changed then.
@@ -72,6 +75,7 @@ pub fn remember_one(
         Ok(()) => Some(Listed {
             path: folder,
             seen: one,
+            next: Cell::new(0),
             time: moment.time,
             changes: moment.changes,
         }),
@@ -79,20 +83,46 @@ pub fn remember_one(
     }
 }
 
-/// What was seen at the name.
-fn seen_at(seen: &[SeenName], name: &Name) -> Option<Seen>
+/// What was seen under the name there, if that is the name.
+fn seen_there(seen: &[SeenName], i: usize, name: &Name) -> Option<Seen>
     ensures { (at : Tree) (p : Names) → All (λ one. IsSeen at (p ++ one.name ∷ []) one.seen) seen.now → IfSome result (IsSeen at (p ++ name.now ∷ [])) }
 {
-    match seen.binary_search_by(|one| compare(&one.name, name)) {
-        Ok(i) => {
-            let one = &seen[i];
+    match seen.get(i) {
+        Some(one) => {
             if one.name.is(name) {
                 Some(one.seen)
             } else {
                 None
             }
         }
-        Err(_) => None,
+        None => None,
+    }
+}
+
+/// Where the name is, if it is there.
+fn place_of(seen: &[SeenName], name: &Name) -> usize {
+    match seen.binary_search_by(|one| compare(&one.name, name)) {
+        Ok(i) => i,
+        Err(_) => seen.len(),
+    }
+}
+
+/// What was seen at the name: no search where it is the one behind that which was told before.
+fn seen_at(listed: &Listed, name: &Name) -> Option<Seen>
+    ensures { (at : Tree) (p : Names) → All (λ one. IsSeen at (p ++ one.name ∷ []) one.seen) listed.now.seen.items → IfSome result (IsSeen at (p ++ name.now ∷ [])) }
+{
+    let seen = listed.seen.as_slice();
+    let next = listed.next.get();
+    match seen_there(seen, next, name) {
+        Some(found) => {
+            listed.next.set(next.saturating_add(1));
+            Some(found)
+        }
+        None => {
+            let i = place_of(seen, name);
+            listed.next.set(i.saturating_add(1));
+            seen_there(seen, i, name)
+        }
     }
 }
 
@@ -104,7 +134,7 @@ fn seen_in(listed: &Listed, path: &Path) -> Option<Seen>
         None => None,
         Some((name, above)) => {
             if above.len() == listed.path.len() && listed.path.is_prefix_of(path) {
-                seen_at(listed.seen.as_slice(), name)
+                seen_at(listed, name)
             } else {
                 None
             }

@@ -24,6 +24,7 @@ use disk::Disk;
 use errno::ENOMEM;
 use paths::{Name, Path};
 use std::alloc::{AllocError, Global};
+use std::cell::Cell;
 
 /// A name in a folder, and what a look has shown there.
 #[derive(Drop)]
@@ -71,7 +72,7 @@ pub fn look_all<D: Disk>(
     ensures ok { (p : Names) → D.stands disk.now folder.now p → ListsNames (D.tree disk.now) p names.now → IfOk result (λ seen. AreSeen (D.tree disk.now) p names.now seen.items) }
     ensures err { IfErr result IsFailure }
 {
-    let mut all = Vec::new(disk.alloc());
+    let mut all = Vec::with_capacity(disk.alloc(), names.len())?;
     for name in names {
         match look_listed(disk, folder, name) {
             Ok(seen) => add(&mut all, name, seen)?,
@@ -85,7 +86,7 @@ pub fn look_all<D: Disk>(
 fn children_of(alloc: Global, seen: &[SeenName]) -> Result<Vec<Child>, AllocError>
     ensures { IfOk result (λ children. children.items ≡ children_of seen.now) }
 {
-    let mut children = Vec::new(alloc);
+    let mut children = Vec::with_capacity(alloc, seen.len())?;
     for one in seen {
         children.push(Child {
             name: one.name.copy()?,
@@ -95,13 +96,16 @@ fn children_of(alloc: Global, seen: &[SeenName]) -> Result<Vec<Child>, AllocErro
     Ok(children)
 }
 
-/// The names in an open folder, with what stands there: `getdents`, and one look each.
+/// The names in an open folder by rising bytes, with what stands there: `getdents`, and one look each.
 fn list_open<D: Disk>(disk: &D, folder: &D::Handle) -> Result<Vec<SeenName>, Trouble>
     ensures ok { (p : Names) → D.stands disk.now folder.now p → IfOk result (λ seen. (names : _) × ListsNames (D.tree disk.now) p names × AreSeen (D.tree disk.now) p names seen.items) }
     ensures err { IfErr result IsFailure }
 {
     match disk.list(folder) {
-        Ok(names) => look_all(disk, folder, names.as_slice()),
+        Ok(mut names) => {
+            sort(&mut names);
+            look_all(disk, folder, names.as_slice())
+        }
         Err(error) => Err(failure(error)),
     }
 }
@@ -134,14 +138,14 @@ fn names_of(alloc: Global, seen: &[SeenName]) -> Result<Answer, Trouble>
 }
 
 /// What was seen is remembered.
-fn remember(path: &Path, mut seen: Vec<SeenName>, time: u64, changes: u64) -> Option<Listed>
+fn remember(path: &Path, seen: Vec<SeenName>, time: u64, changes: u64) -> Option<Listed>
     ensures { (at : Tree) → EachSeen at path.now seen.items → IsListed at result }
 {
-    sort(&mut seen);
     match path.copy() {
         Ok(path) => Some(Listed {
             path,
             seen,
+            next: Cell::new(0),
             time,
             changes,
         }),

@@ -32,7 +32,7 @@ pub fn expect_lawful(name: &Name) -> Result<(), Trouble>
     ensures ok { OnOk result (IsLawfulName name.now) }
     ensures err { IfErr result IsFailure }
 {
-    if is_lawful(name.as_str().as_bytes()) {
+    if is_lawful(name.as_bytes()) {
         Ok(())
     } else {
         Err(Trouble::Failed(EINVAL))

@@ -78,9 +78,8 @@ impl<H: Drop> OpenCache<H> {
         (self.epoch << TIME_BITS) | (self.time & TIMES)
     }
 
-    /// It was looked at a short time ago, and nobody else has moved or removed a folder since.
-    fn is_trusted(&self, place: Place<'_>) -> bool {
-        let looked = self.cache.looked(place);
+    /// What was looked at when that was the stamp was looked at a short time ago, and nobody else has moved or removed a folder since.
+    fn is_trusted(&self, looked: u64) -> bool {
         let same_epoch = looked >> TIME_BITS == self.stamp() >> TIME_BITS;
         same_epoch && (looked & TIMES).saturating_add(TRUSTED) >= self.time & TIMES
     }
@@ -92,19 +91,23 @@ impl<H: Drop> OpenCache<H> {
         self.cache.make_room(n);
     }
 
-    /// Where the name is kept below the folder, as a folder that is used without a look at it.
-    pub fn trusted_folder<'a>(&mut self, folder: &Held<'_, H>, name: &'a Name) -> Option<Place<'a>>
-        requires { IsHeld self.old folder.now }
-        ensures keeps { KeepsAll self.old self.new }
-        ensures found { (up : Names) → IsHeldAt self.old folder.now up → IfSome result (λ place. IsAt self.new.cache place (up ++ name.now ∷ [])) }
-        ensures kind { IfSome result (λ place. kind_at self.new place ≡ Some kinds.Folder) }
+    /// Where the name is kept below the folder, as a folder that is used without a look at it. It counts as used since that look.
+    pub fn trusted_folder<'a>(&self, folder: &Held<'_, H>, name: &'a Name) -> Option<Place<'a>>
+        requires { IsHeld self.now folder.now }
+        ensures found { (up : Names) → IsHeldAt self.now folder.now up → IfSome result (λ place. IsAt self.now.cache place (up ++ name.now ∷ [])) }
+        ensures kind { IfSome result (λ place. kind_at self.now place ≡ Some kinds.Folder) }
     {
-        let place = self.child(folder, name)?;
-        match self.cache.value(place).kind {
+        let Held::Kept(folder) = folder else {
+            return None;
+        };
+        let Some(found) = self.cache.peek(*folder, name) else {
+            return None;
+        };
+        match found.value.kind {
             Kind::File | Kind::Link | Kind::Special(_) => None,
             Kind::Folder => {
-                if self.is_trusted(place) {
-                    Some(place)
+                if self.is_trusted(found.looked) {
+                    Some(found.place)
                 } else {
                     None
                 }
@@ -120,12 +123,11 @@ impl<H: Drop> OpenCache<H> {
         let Held::Kept(folder) = entry.folder else {
             return;
         };
-        let Some(place) = self.cache.child(folder, entry.name) else {
+        let Some(found) = self.cache.peek(folder, entry.name) else {
             return;
         };
-        let kept = self.cache.value(place).id;
-        if is_same(kept, id) {
-            let stamp = self.stamp();
+        if is_same(found.value.id, id) {
+            let (place, stamp) = (found.place, self.stamp());
             self.cache.touch(place, stamp);
         } else {
             self.cache.forget(folder, entry.name);

@@ -2,6 +2,7 @@
 use Rattle.std.proofs.Common.{ℕ, ◌≡◌, pos, Bool, true, false, List, [], Option, Some, None, inl, inr, refl, sym, ap, subst, ◌∙◌}
 use Rattle.errno.specs.declared.TheConstants.{EIO, ENOMEM}
 use Rattle.wire.specs.Faults.{fault_errno}
+use Rattle.terms.specs.declared.settings.Names.TheVariants.{Bytes}
 use Rattle.wire.specs.Requests.{IsRequest, opcode_in, unique_in}
 use Rattle.wire.specs.Written.{le, body_bytes, reply_bytes}
 use Rattle.wire.specs.declared.greeting.Negotiated.{Negotiated}
@@ -71,7 +72,7 @@ module _ {W L C D : Type 0} (rules : Rules W L) (does : Behaviour C D) where
         passes = offer;
       }
 
-  welcomed_by : (frame : List ℕ) (q : Request) (answer : Option Negotiated) (old : Environment (Stand W) L C D) (link : L) (now : Bool) (sent : Sent) (end : Option SessionEnd) → InitFrame ≡ class old.at.agreed (opcode_in frame) → IsRequest frame q → answer ≡ negotiated_by q.operation
+  welcomed_by : (frame : List ℕ) (q : Request) (answer : Option Negotiated) (old : Environment (Stand W) L C D) (link : L) (now : Bool) (sent : Sent) (end : Option SessionEnd) → InitFrame ≡ class old.at.agreed (opcode_in frame) → IsRequest Bytes frame q → answer ≡ negotiated_by q.operation
       → RepliesInitBy rules.sends q.unique answer old.at.agreed old.link sent link now → end ≡ ending (Some sent) false
       → IsHandled rules does frame old end (around link old.served (stand old.at.world now))
   welcomed_by frame q None old link now sent end is request by w ends = absurd w

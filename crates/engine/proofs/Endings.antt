@@ -21,7 +21,7 @@ use Rattle.wire.specs.Written.{reply_bytes}
 use Rattle.wire.specs.declared.reply.Reply.{Reply}
 use Rattle.wire.specs.declared.reply.ReplyBody.{ReplyBody}
 use Rattle.wire.specs.declared.reply.ReplyBody.TheVariants.{Failed}
-use Rattle.wire.specs.declared.request.Operation.{Operation}
+use Rattle.wire.specs.declared.request.Request.{Request}
 use Rattle.engine.specs.declared.links.Sent.{Sent}
 use Rattle.handles.specs.Calls.{FolderCall, Put}
 use Rattle.engine.specs.Folders.{GivesUp, PutsListing}
@@ -94,12 +94,12 @@ pub none_given_up : (taken : Bool) → GivesUp taken None []
 none_given_up true = refl
 none_given_up false = refl
 
-played : (settings : Settings) (refused : Option Place) (meant said : ReplyBody) (operation : Operation) (ticket : Claim) (made : List Made) (end : End) → IsSaid refused meant said → Follows (plan_of settings operation ticket) made end → Plays settings refused operation ticket made end
-played settings None meant said operation ticket made end is f = f
-played settings (Some AtBegin) meant said operation ticket made end is f = absurd is
-played settings (Some AtScript) meant said operation ticket made end is f = absurd is
-played settings (Some AtListing) meant said operation ticket made end is f = absurd is
-played settings (Some AtReply) meant said operation ticket made end is f = f
+played : (settings : Settings) (refused : Option Place) (meant said : ReplyBody) (q : Request) (ticket : Claim) (made : List Made) (end : End) → IsSaid refused meant said → Follows (plan_of settings q.caller q.operation ticket) made end → Plays settings refused q ticket made end
+played settings None meant said q ticket made end is f = f
+played settings (Some AtBegin) meant said q ticket made end is f = absurd is
+played settings (Some AtScript) meant said q ticket made end is f = absurd is
+played settings (Some AtListing) meant said q ticket made end is f = absurd is
+played settings (Some AtReply) meant said q ticket made end is f = f
 
 -- a reply for which memory was refused
 pub starved_untaken : {L : Type 0} (sends : L → List ℕ → Sent → L → Type 0) (meant : Reply) (old new : L) (sent : Sent) → TakesMemory meant.body → sends old (reply_bytes (refusal meant.unique ENOMEM)) sent new → RepliesTaken sends meant old sent false new
@@ -108,7 +108,7 @@ starved_untaken sends meant old new sent takes s = record { told = record { refu
 module _ {W L : Type 0} (rules : Rules W L) where
   -- the script has made these calls and has this result
   pub concluded : (b : Begun) (made : List Made) (finding : ScriptResult) (outcome : Outcome) (put : Option ℕ) (first last : List FolderCall) (meant : ReplyBody) (answer : Answer) (old new : LinkAndTable L W) (finished : W) (sent : Sent) (taken : Bool)
-      → Follows (plan_of rules.settings b.q.operation b.ticket) made (record { outcome = outcome; findings = finding })
+      → Follows (plan_of rules.settings b.q.caller b.q.operation b.ticket) made (record { outcome = outcome; findings = finding })
       → rules.table.finishes old.world b.ticket.id outcome answer finished → meant ≡ reply_to rules.settings b.q.node b.page finding put answer
       → PutsListing b.q.node finding first put → GivesUp taken put last
       → RepliesTaken rules.sends (record { unique = b.q.unique; body = meant }) old.link sent taken new.link → rules.table.settles finished answer put taken new.world
@@ -117,7 +117,7 @@ module _ {W L : Type 0} (rules : Rules W L) where
       let s = r.told in
       record {
         refused = s.refused;
-        script = played rules.settings s.refused meant s.said b.q.operation b.ticket made (record { outcome = outcome; findings = finding }) s.said_is follows;
+        script = played rules.settings s.refused meant s.said b.q b.ticket made (record { outcome = outcome; findings = finding }) s.said_is follows;
         said = s.said;
         offer = s.offer;
         concluded = record {
@@ -138,19 +138,19 @@ module _ {W L : Type 0} (rules : Rules W L) where
       }
 
   pub concluded_plain : (b : Begun) (made : List Made) (finding : ScriptResult) (meant : ReplyBody) (answer : Answer) (old new : LinkAndTable L W) (finished : W) (sent : Sent) (taken : Bool) → IsPlain finding
-      → Follows (plan_of rules.settings b.q.operation b.ticket) made (end_of finding)
+      → Follows (plan_of rules.settings b.q.caller b.q.operation b.ticket) made (end_of finding)
       → rules.table.finishes old.world b.ticket.id (outcome_of finding) answer finished → meant ≡ reply_to rules.settings b.q.node b.page finding None answer
       → RepliesTaken rules.sends (record { unique = b.q.unique; body = meant }) old.link sent taken new.link → rules.table.settles finished answer None taken new.world
       → Concludes rules b made (end_of finding) [] old sent new
   concluded_plain b made finding meant answer old new finished sent taken h follows finishes is r settles =
       subst (λ (e : End). Concludes rules b made e [] old sent new) (plain_end finding h)
       (concluded b made finding (outcome_of finding) None [] [] meant answer old new finished sent taken
-      (subst (λ (e : End). Follows (plan_of rules.settings b.q.operation b.ticket) made e) (sym (plain_end finding h)) follows) finishes is (plain b.q.node finding h) (none_given_up taken) r settles)
+      (subst (λ (e : End). Follows (plan_of rules.settings b.q.caller b.q.operation b.ticket) made e) (sym (plain_end finding h)) follows) finishes is (plain b.q.node finding h) (none_given_up taken) r settles)
 
   -- ---- OPENDIR
 
   pub concluded_open : (b : Begun) (made : List Made) (children : List Child) (folder : OpenFolder) (put : Option ℕ) (last : List FolderCall) (meant : ReplyBody) (answer : Answer) (old new : LinkAndTable L W) (finished : W) (sent : Sent) (taken : Bool)
-      → IsMade b.q.node children (Ok folder) → Follows (plan_of rules.settings b.q.operation b.ticket) made (listing_found children) → rules.table.finishes old.world b.ticket.id Done answer finished → meant ≡ opened_reply put → GivesUp taken put last
+      → IsMade b.q.node children (Ok folder) → Follows (plan_of rules.settings b.q.caller b.q.operation b.ticket) made (listing_found children) → rules.table.finishes old.world b.ticket.id Done answer finished → meant ≡ opened_reply put → GivesUp taken put last
       → RepliesTaken rules.sends (record { unique = b.q.unique; body = meant }) old.link sent taken new.link → rules.table.settles finished answer put taken new.world
       → Concludes rules b made (listing_found children) (Put folder put ∷ last) old sent new
   concluded_open b made children folder put last meant answer old new finished sent taken is_made follows finishes is gives r settles =
@@ -158,7 +158,7 @@ module _ {W L : Type 0} (rules : Rules W L) where
 
   -- a listing for which memory was refused
   pub concluded_starved : (b : Begun) (made : List Made) (children : List Child) (answer : Answer) (old new : LinkAndTable L W) (finished : W) (sent : Sent)
-      → IsMade b.q.node children (Err Memory) → Follows (plan_of rules.settings b.q.operation b.ticket) made (listing_found children) → rules.table.finishes old.world b.ticket.id Done answer finished → rules.sends old.link (reply_bytes (refusal b.q.unique ENOMEM)) sent new.link → rules.table.settles finished answer None false new.world
+      → IsMade b.q.node children (Err Memory) → Follows (plan_of rules.settings b.q.caller b.q.operation b.ticket) made (listing_found children) → rules.table.finishes old.world b.ticket.id Done answer finished → rules.sends old.link (reply_bytes (refusal b.q.unique ENOMEM)) sent new.link → rules.table.settles finished answer None false new.world
       → Concludes rules b made (listing_found children) [] old sent new
   concluded_starved b made children answer old new finished sent lawful follows finishes s settles = record {
     refused = Some AtListing;
@@ -185,7 +185,7 @@ module _ {W L : Type 0} (rules : Rules W L) where
   -- ---- READDIRPLUS
 
   pub concluded_entries : (b : Begun) (made : List Made) (founds : List (Option FoundFile)) (meant : ReplyBody) (answer : Answer) (old new : LinkAndTable L W) (finished : W) (sent : Sent) (taken : Bool)
-      → Follows (plan_of rules.settings b.q.operation b.ticket) made (entries_found founds) → rules.table.finishes old.world b.ticket.id (entries_found founds).outcome answer finished → meant ≡ reply_to rules.settings b.q.node b.page (findings.Looked founds) None answer
+      → Follows (plan_of rules.settings b.q.caller b.q.operation b.ticket) made (entries_found founds) → rules.table.finishes old.world b.ticket.id (entries_found founds).outcome answer finished → meant ≡ reply_to rules.settings b.q.node b.page (findings.Looked founds) None answer
       → RepliesTaken rules.sends (record { unique = b.q.unique; body = meant }) old.link sent taken new.link → rules.table.settles finished answer None taken new.world
       → Concludes rules b made (entries_found founds) [] old sent new
   concluded_entries b made founds meant answer old new finished sent taken follows finishes is r settles =

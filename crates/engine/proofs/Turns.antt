@@ -59,7 +59,7 @@ starved sends meant old new sent takes s = record { refused = Some AtReply; said
 
 module _ {W L C D : Type 0} (rules : Rules W L) (does : Behaviour C D) where
   -- a frame that is not a request
-  pub fault_answered : (frame : List ℕ) (fault : WireFault) (old : Environment W L C D) (link : L) (result : Option Sent) → IsFirstFault frame fault
+  pub fault_answered : (frame : List ℕ) (fault : WireFault) (old : Environment W L C D) (link : L) (result : Option Sent) → IsFirstFault rules.settings.names frame fault
       → IfSome result (λ sent. (is_unanswered (opcode_in frame) ≡ false) × rules.sends old.link (reply_bytes (refusal (unique_in frame) (refusal_errno rules.settings (opcode_in frame) fault))) sent link)
       → IfNone result ((is_unanswered (opcode_in frame) ≡ true) × (link ≡ old.link))
       → WorkedOff rules does frame old result (around link old.served old.at)
@@ -86,7 +86,7 @@ module _ {W L C D : Type 0} (rules : Rules W L) (does : Behaviour C D) where
   }
 
   -- a request that is answered at once
-  pub said_at_once : (frame : List ℕ) (q : Request) (meant : ReplyBody) (old : Environment W L C D) (link : L) (sent : Sent) → IsRequest frame q → intents.Reply meant ≡ intent rules.settings q
+  pub said_at_once : (frame : List ℕ) (q : Request) (meant : ReplyBody) (old : Environment W L C D) (link : L) (sent : Sent) → IsRequest rules.settings.names frame q → intents.Reply meant ≡ intent rules.settings q
       → IsAnswered rules.sends (record { unique = q.unique; body = meant }) old.link sent link
       → WorkedOff rules does frame old (Some sent) (around link old.served old.at)
   said_at_once frame q meant old link sent is i a =
@@ -102,7 +102,7 @@ module _ {W L C D : Type 0} (rules : Rules W L) (does : Behaviour C D) where
       }
 
   -- a request that asks whether a file is open
-  pub asked_of_file : (frame : List ℕ) (q : Request) (fh : ℕ) (file : Option OpenFile) (meant : ReplyBody) (old : Environment W L C D) (at : W) (link : L) (sent : Sent) → IsRequest frame q → intents.File fh ≡ intent rules.settings q → rules.table.finds old.at fh file at → meant ≡ file_reply q.node file
+  pub asked_of_file : (frame : List ℕ) (q : Request) (fh : ℕ) (file : Option OpenFile) (meant : ReplyBody) (old : Environment W L C D) (at : W) (link : L) (sent : Sent) → IsRequest rules.settings.names frame q → intents.File fh ≡ intent rules.settings q → rules.table.finds old.at fh file at → meant ≡ file_reply q.node file
       → IsAnswered rules.sends (record { unique = q.unique; body = meant }) old.link sent link
       → WorkedOff rules does frame old (Some sent) (around link old.served at)
   asked_of_file frame q fh file meant old at link sent is i found e a =
@@ -118,7 +118,7 @@ module _ {W L C D : Type 0} (rules : Rules W L) (does : Behaviour C D) where
       }
 
   -- lookups are forgotten
-  pub forgot : (frame : List ℕ) (q : Request) (lookups : List ForgetOne) (old : Environment W L C D) (at : W) → IsRequest frame q → intents.Forget lookups ≡ intent rules.settings q → ForgetsAll rules.table old.at lookups at
+  pub forgot : (frame : List ℕ) (q : Request) (lookups : List ForgetOne) (old : Environment W L C D) (at : W) → IsRequest rules.settings.names frame q → intents.Forget lookups ≡ intent rules.settings q → ForgetsAll rules.table old.at lookups at
       → WorkedOff rules does frame old None (around old.link old.served at)
   forgot frame q lookups old at is i f = record {
     turn = silent frame;
@@ -131,7 +131,7 @@ module _ {W L C D : Type 0} (rules : Rules W L) (does : Behaviour C D) where
   }
 
   -- entries of an open folder are returned by a request that begins
-  told_entries : (frame : List ℕ) (q : Request) (fh : ℕ) (usage : FolderUse) (old new : Environment W L C D) (sent : Sent) → IsRequest frame q → intents.Folder fh usage ≡ intent rules.settings q
+  told_entries : (frame : List ℕ) (q : Request) (fh : ℕ) (usage : FolderUse) (old new : Environment W L C D) (sent : Sent) → IsRequest rules.settings.names frame q → intents.Folder fh usage ≡ intent rules.settings q
       → TellsPage rules does q fh usage old sent new
       → WorkedOff rules does frame old (Some sent) new
   told_entries frame q fh usage old new sent is i t =
@@ -148,7 +148,7 @@ module _ {W L C D : Type 0} (rules : Rules W L) (does : Behaviour C D) where
       }
 
   -- a request that uses an open folder
-  pub used : (frame : List ℕ) (q : Request) (fh : ℕ) (usage : FolderUse) (old new : Environment W L C D) (sent : Sent) → IsRequest frame q → intents.Folder fh usage ≡ intent rules.settings q
+  pub used : (frame : List ℕ) (q : Request) (fh : ℕ) (usage : FolderUse) (old new : Environment W L C D) (sent : Sent) → IsRequest rules.settings.names frame q → intents.Folder fh usage ≡ intent rules.settings q
       → UsesOut rules does q fh usage old sent new
       → WorkedOff rules does frame old (Some sent) new
   used frame q fh usage old new sent is i (inr t) = told_entries frame q fh usage old new sent is i t
@@ -177,7 +177,7 @@ module _ {W L C D : Type 0} (rules : Rules W L) (does : Behaviour C D) where
       }
 
   -- a request that is ignored
-  pub passed_over : (frame : List ℕ) (q : Request) (old : Environment W L C D) → IsRequest frame q → intents.Nothing ≡ intent rules.settings q → WorkedOff rules does frame old None old
+  pub passed_over : (frame : List ℕ) (q : Request) (old : Environment W L C D) → IsRequest rules.settings.names frame q → intents.Nothing ≡ intent rules.settings q → WorkedOff rules does frame old None old
   passed_over frame q old is i = record {
     turn = silent frame;
     frame_is = refl;
@@ -189,7 +189,7 @@ module _ {W L C D : Type 0} (rules : Rules W L) (does : Behaviour C D) where
   }
 
   -- a request that begins
-  pub carried : (frame : List ℕ) (q : Request) (want : Want) (old new : Environment W L C D) (sent : Sent) → IsRequest frame q → intents.Begin want ≡ intent rules.settings q
+  pub carried : (frame : List ℕ) (q : Request) (want : Want) (old new : Environment W L C D) (sent : Sent) → IsRequest rules.settings.names frame q → intents.Begin want ≡ intent rules.settings q
       → RunsOut rules does (attempt q want [] no_page) old sent new
       → WorkedOff rules does frame old (Some sent) new
   carried frame q want old new sent is i a =

@@ -31,7 +31,7 @@ unserved_answered s opcode unserved = elim (either_is (opcode == READLINK) (opco
 ]
 
 -- a whole frame of it with a fault
-unserved_errno : (s : Settings) (frame : List ℕ) (fault : WireFault) → IsFramed frame → IsFirstFault frame fault → is_unserved s (opcode_in frame) ≡ true → refusal_errno s (opcode_in frame) fault ≡ ENOSYS
+unserved_errno : (s : Settings) (frame : List ℕ) (fault : WireFault) → IsFramed frame → IsFirstFault s.names frame fault → is_unserved s (opcode_in frame) ≡ true → refusal_errno s (opcode_in frame) fault ≡ ENOSYS
 unserved_errno s frame faults.Frame framed first unserved = absurd (first framed)
 unserved_errno s frame faults.Opcode framed first unserved = rw unserved refl
 unserved_errno s frame faults.Body framed first unserved = rw unserved refl

@@ -8,6 +8,7 @@ use Rattle.table_requests.specs.declared.data.Want.TheVariants as wants
 use Rattle.table_steps.specs.Answers.{Claim, Answer}
 use Rattle.table_steps.specs.declared.data.Begin.TheVariants.{Go, Refused}
 use Rattle.table_steps.specs.declared.data.Outcome.TheVariants as outcomes
+use Rattle.terms.specs.declared.settings.Names.TheVariants as any
 use Rattle.wire.specs.Faults.{IsFirstFault, fault_errno}
 use Rattle.wire.specs.Negotiation.{negotiated}
 use Rattle.wire.specs.Requests.{IsRequest, opcode_in, unique_in}
@@ -156,9 +157,9 @@ HasNames want = Unit {0}
 
 -- The calls of a request that has begun, and their result. If memory for its script was refused, it makes none and
 -- fails.
-abbrev pub Plays : Settings → Option Place → Operation → Claim → List Made → End → Type 0
-Plays settings (Some AtScript) operation ticket made end = LooksAtEach operation × (made ≡ []) × (end ≡ record { outcome = outcomes.Failed; findings = findings.Error ENOMEM })
-Plays settings refused operation ticket made end = Follows (plan_of settings operation ticket) made end
+abbrev pub Plays : Settings → Option Place → Request → Claim → List Made → End → Type 0
+Plays settings (Some AtScript) q ticket made end = LooksAtEach q.operation × (made ≡ []) × (end ≡ record { outcome = outcomes.Failed; findings = findings.Error ENOMEM })
+Plays settings refused q ticket made end = Follows (plan_of settings q.caller q.operation ticket) made end
 
 -- ---- the state of a session: the table, whether a version is agreed on, and how it has ended, if it has
 
@@ -248,7 +249,7 @@ module _ {W : Type 0} (table : Table W) (settings : Settings) where
     pub begun : W
     pub begins : table.begins old a.q.unique a.want (Go ticket) begun
     pub end : End
-    pub script : Plays settings turn.refused a.q.operation ticket turn.made end
+    pub script : Plays settings turn.refused a.q ticket turn.made end
     pub more : List FolderCall
     pub concluded : IsConcluded (begun_with a.q a.page ticket) turn.refused end more begun turn.offer new
     pub known : table.knows concluded.answer
@@ -294,21 +295,22 @@ module _ {W : Type 0} (table : Table W) (settings : Settings) where
 
   abbrev pub Asks : W → Turn → W → Type 0
   Asks old turn new =
-      ((q : Request) × IsRequest turn.frame q × Serves q (intent settings q) old turn new)
-      ⊎ ((fault : WireFault) × IsFirstFault turn.frame fault × Faults (is_unanswered (opcode_in turn.frame)) fault old turn new)
+      ((q : Request) × IsRequest settings.names turn.frame q × Serves q (intent settings q) old turn new)
+      ⊎ ((fault : WireFault) × IsFirstFault settings.names turn.frame fault × Faults (is_unanswered (opcode_in turn.frame)) fault old turn new)
 
-  -- a frame of each class, and whether a version was agreed on before it and is afterwards
+  -- a frame of each class, and whether a version was agreed on before it and is afterwards. INIT and DESTROY have no
+  -- names, so they are the same requests whichever names a session takes
   abbrev pub HandlesFrame : (before : Bool) → Class → W → Turn → W → (now : Bool) → Type 0
   HandlesFrame before Ignored old turn new now = IsSilent turn × (new ≡ old) × Stays before turn now
   HandlesFrame before Unexpected old turn new now = Refuses EIO old turn new × Stays before turn now
   HandlesFrame before InitFrame old turn new now =
       (turn.destroyed ≡ false)
-      × (((q : Request) × IsRequest turn.frame q × HandlesInit q.unique (negotiated_by q.operation) before old turn new now)
-      ⊎ ((fault : WireFault) × IsFirstFault turn.frame fault × Refuses (fault_errno fault) old turn new × (now ≡ before)))
+      × (((q : Request) × IsRequest any.Bytes turn.frame q × HandlesInit q.unique (negotiated_by q.operation) before old turn new now)
+      ⊎ ((fault : WireFault) × IsFirstFault any.Bytes turn.frame fault × Refuses (fault_errno fault) old turn new × (now ≡ before)))
   HandlesFrame before DestroyFrame old turn new now =
       (now ≡ before)
-      × (((q : Request) × IsRequest turn.frame q × Answers q.unique Done old turn new × (turn.destroyed ≡ true))
-      ⊎ ((fault : WireFault) × IsFirstFault turn.frame fault × Refuses (fault_errno fault) old turn new × (turn.destroyed ≡ false)))
+      × (((q : Request) × IsRequest any.Bytes turn.frame q × Answers q.unique Done old turn new × (turn.destroyed ≡ true))
+      ⊎ ((fault : WireFault) × IsFirstFault any.Bytes turn.frame fault × Refuses (fault_errno fault) old turn new × (turn.destroyed ≡ false)))
   HandlesFrame before Asking old turn new now = Asks old turn new × Stays before turn now
 
   pub record IsTurn (old : At W) (turn : Turn) (new : At W) : Type 0 where

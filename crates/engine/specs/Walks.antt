@@ -9,6 +9,7 @@ use Rattle.ops.specs.declared.findings.ScriptResult.{ScriptResult}
 use Rattle.ops.specs.declared.findings.ScriptResult.TheVariants as findings
 use Rattle.std.specs.Borrow.{Bor}
 use Rattle.table_requests.specs.declared.data.Want.{Want}
+use Rattle.terms.specs.declared.settings.Names.TheVariants as any
 use Rattle.wire.specs.Faults.{IsFirstFault, fault_errno}
 use Rattle.wire.specs.Requests.{IsFramed, IsRequest, opcode_in, unique_in}
 use Rattle.wire.specs.Stream.{BeginsBadly, IsPartial}
@@ -151,19 +152,19 @@ RepliesInitBy sends unique (Some answer) before old sent new now = RepliesInit s
 -- a frame that is refused for its fault
 pub record IsFaulty {L : Type 0} (sends : L → List ℕ → Sent → L → Type 0) (frame : List ℕ) (old : L) (sent : Sent) (new : L) : Type 0 where
   pub fault : WireFault
-  pub first : IsFirstFault frame fault
+  pub first : IsFirstFault any.Bytes frame fault
   pub offer : sends old (reply_bytes (refusal (unique_in frame) (fault_errno fault))) sent new
 
 -- an INIT
 abbrev pub HandlesInitFrame : {L : Type 0} → (L → List ℕ → Sent → L → Type 0) → List ℕ → (before : Bool) → L → Sent → L → (now : Bool) → Type 0
 HandlesInitFrame sends frame before old sent new now =
-    ((q : Request) × IsRequest frame q × RepliesInitBy sends q.unique (negotiated_by q.operation) before old sent new now)
+    ((q : Request) × IsRequest any.Bytes frame q × RepliesInitBy sends q.unique (negotiated_by q.operation) before old sent new now)
     ⊎ (IsFaulty sends frame old sent new × (now ≡ before))
 
 -- a DESTROY
 abbrev pub HandlesDestroy : {L : Type 0} → (L → List ℕ → Sent → L → Type 0) → List ℕ → L → Option SessionEnd → L → Type 0
 HandlesDestroy sends frame old end new =
-    ((q : Request) × IsRequest frame q × (sent : Sent) × sends old (reply_bytes (done_reply q.unique)) sent new × (end ≡ ending (Some sent) true))
+    ((q : Request) × IsRequest any.Bytes frame q × (sent : Sent) × sends old (reply_bytes (done_reply q.unique)) sent new × (end ≡ ending (Some sent) true))
     ⊎ ((sent : Sent) × IsFaulty sends frame old sent new × (end ≡ ending (Some sent) false))
 
 -- a reply that is given, and whether its request is to be settled as taken
@@ -215,7 +216,7 @@ with_table link world = record { link = link; world = world }
 -- a request whose script has made these calls and ended is concluded, with these calls of the open folders
 pub record Concludes {W L : Type 0} (rules : Rules W L) (b : Begun) (made : List Made) (end : End) (folders : List FolderCall) (old : LinkAndTable L W) (sent : Sent) (new : LinkAndTable L W) : Type 0 where
   pub refused : Option Place
-  pub script : Plays rules.settings refused b.q.operation b.ticket made end
+  pub script : Plays rules.settings refused b.q b.ticket made end
   pub said : ReplyBody
   pub offer : rules.sends old.link (reply_bytes (record { unique = b.q.unique; body = said })) sent new.link
   pub concluded : IsConcluded rules.table rules.settings b refused end folders old.world (Some (record { reply = record { unique = b.q.unique; body = said }; sent = sent })) new.world

@@ -88,7 +88,7 @@ impl Session {
     ) -> Sent
         requires free { R.steps.is_free (R.world table.old) }
         requires plain { IsPlain found }
-        ensures concludes { (made : List Made) → Follows (plan_of self.old.settings begun.entry.request.operation begun.entry.ticket) made (end_of found) → Concludes (by_rules R.steps self.old.settings L.sends) (begun_of begun.entry) made (end_of found) []
+        ensures concludes { (made : List Made) → Follows (plan_of self.old.settings begun.entry.request.caller begun.entry.request.operation begun.entry.ticket) made (end_of found) → Concludes (by_rules R.steps self.old.settings L.sends) (begun_of begun.entry) made (end_of found) []
             (with_table link.old (R.world table.old)) result (with_table link.new (R.world table.new)) }
         ensures keeps { KeepsBook R.steps self.old (R.world table.old) share.old self.new (R.world table.new) share.new }
     {
@@ -116,7 +116,7 @@ impl Session {
     ) -> Sent
         requires free { R.steps.is_free (R.world table.old) }
         ensures concludes { ByCalls D.keeps dirs.old dirs.new (λ folders. (made : List Made) (children : List Child) → IsMade begun.entry.request.node children (Ok listing)
-            → Follows (plan_of self.old.settings begun.entry.request.operation begun.entry.ticket) made (listing_found children) → Concludes (by_rules R.steps self.old.settings L.sends) (begun_of begun.entry) made (listing_found children) folders
+            → Follows (plan_of self.old.settings begun.entry.request.caller begun.entry.request.operation begun.entry.ticket) made (listing_found children) → Concludes (by_rules R.steps self.old.settings L.sends) (begun_of begun.entry) made (listing_found children) folders
             (with_table link.old (R.world table.old)) result (with_table link.new (R.world table.new))) }
         ensures keeps { KeepsBook R.steps self.old (R.world table.old) share.old self.new (R.world table.new) share.new }
     {
@@ -144,7 +144,7 @@ impl Session {
         begun: Begun<'_>,
     ) -> Sent
         requires free { R.steps.is_free (R.world table.old) }
-        ensures concludes { (made : List Made) (children : List Child) → IsMade begun.entry.request.node children (Err Memory) → Follows (plan_of self.old.settings begun.entry.request.operation begun.entry.ticket) made (listing_found children)
+        ensures concludes { (made : List Made) (children : List Child) → IsMade begun.entry.request.node children (Err Memory) → Follows (plan_of self.old.settings begun.entry.request.caller begun.entry.request.operation begun.entry.ticket) made (listing_found children)
             → Concludes (by_rules R.steps self.old.settings L.sends) (begun_of begun.entry) made (listing_found children) []
             (with_table link.old (R.world table.old)) result (with_table link.new (R.world table.new)) }
         ensures keeps { KeepsBook R.steps self.old (R.world table.old) share.old self.new (R.world table.new) share.new }
@@ -170,7 +170,7 @@ impl Session {
         children: Children,
     ) -> Sent
         requires free { R.steps.is_free (R.world table.old) }
-        ensures concludes { ByCalls D.keeps dirs.old dirs.new (λ folders. (made : List Made) → Follows (plan_of self.old.settings begun.entry.request.operation begun.entry.ticket) made (listed_end children)
+        ensures concludes { ByCalls D.keeps dirs.old dirs.new (λ folders. (made : List Made) → Follows (plan_of self.old.settings begun.entry.request.caller begun.entry.request.operation begun.entry.ticket) made (listed_end children)
             → Concludes (by_rules R.steps self.old.settings L.sends) (begun_of begun.entry) made (listed_end children) folders
             (with_table link.old (R.world table.old)) result (with_table link.new (R.world table.new))) }
         ensures keeps { KeepsBook R.steps self.old (R.world table.old) share.old self.new (R.world table.new) share.new }

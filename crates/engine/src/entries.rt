@@ -31,7 +31,7 @@ impl Session {
         looked: Looked,
     ) -> Sent
         requires free { R.steps.is_free (R.world table.old) }
-        ensures concludes { (made : List Made) → Follows (plan_of self.old.settings begun.entry.request.operation begun.entry.ticket) made (entries_found looked) → Concludes (by_rules R.steps self.old.settings L.sends) (begun_of begun.entry) made (entries_found looked) []
+        ensures concludes { (made : List Made) → Follows (plan_of self.old.settings begun.entry.request.caller begun.entry.request.operation begun.entry.ticket) made (entries_found looked) → Concludes (by_rules R.steps self.old.settings L.sends) (begun_of begun.entry) made (entries_found looked) []
             (with_table link.old (R.world table.old)) result (with_table link.new (R.world table.new)) }
         ensures keeps { KeepsBook R.steps self.old (R.world table.old) share.old self.new (R.world table.new) share.new }
     {

@@ -20,6 +20,7 @@ use errno::{EIO, ENOMEM, EPROTO};
 use handles::Folders;
 use ledger::{Ledgers, Share};
 use std::sync::Wait;
+use terms::Names;
 use wire::{Negotiated, Operation, Reply, ReplyBody, decode, header_of, negotiate};
 
 /// How the session ended with a reply, if it did.
@@ -82,12 +83,12 @@ fn unique_of(frame: &[u8]) -> u64
     header.unique
 }
 
-/// Answers a DESTROY, which ends the session unless it is faulty.
+/// Answers a DESTROY, which ends the session unless it is faulty. It has no names, so it is the same in any session.
 fn handle_destroy<L: Outlet>(link: &mut L, frame: &[u8]) -> Option<SessionEnd>
     requires { IsFramed frame.now }
     ensures { HandlesDestroy L.sends frame.now link.old result link.new }
 {
-    match decode(frame) {
+    match decode(frame, Names::Bytes) {
         Ok(request) => ending(Some(reply_done(link, request.unique)), true),
         Err(fault) => ending(Some(refuse(link, unique_of(frame), fault.errno())), false),
     }
@@ -120,7 +121,7 @@ impl Session {
         ensures handles { HandlesInitFrame L.sends frame.now self.old.agreed link.old result link.new self.new.agreed }
         ensures settings { self.new.settings ≡ self.old.settings }
     {
-        match decode(frame) {
+        match decode(frame, Names::Bytes) {
             Ok(request) => match negotiated_by(request.operation) {
                 Some(answer) => self.reply_init(link, request.unique, answer),
                 None => unreachable!(),

@@ -140,7 +140,7 @@ impl Session {
         ensures idle { R.steps.is_idle (R.world table.new) }
     {
         table.attest(); // proof: its law
-        let request = match decode(frame) {
+        let request = match decode(frame, self.settings.names) {
             Ok(request) => request,
             Err(fault) => return refuse_frame(link, self.settings, frame, fault),
         };

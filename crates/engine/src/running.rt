@@ -87,7 +87,7 @@ impl Session {
         ensures keeps { KeepsBook R.steps self.old (R.world table.old) share.old self.new (R.world table.new) share.new }
     {
         let request = attempt.request;
-        let script = match Script::start(self.alloc, self.settings, request.operation, &ticket) {
+        let script = match Script::start(self.alloc, self.settings, request, &ticket) {
             Ok(script) => script,
             Err(_) => return self.end_without_script(link, table, share, request, ticket),
         };

@@ -92,12 +92,37 @@ impl Rest {
         let receives = common.signs.receives.load(Ordering::SeqCst);
         let is_news = receives != self.seen;
         self.seen = receives;
-        let before = common.signs.worked();
-        if common.sleepers.sleep(&common.rt, self.number, is_news) {
-            common.signs.tell_watched(before);
+        if is_news && common.sleepers.begin_watch() {
+            watch(common, self.number);
+        } else {
+            common.sleepers.sleep(&common.rt, self.number);
         }
         self.is_lying = false;
         self.has_slept = true;
         self.looks = 0;
     }
+}
+
+/// Watches until another thread wakes this one or a look is due. While the others get through many jobs this thread would
+/// only be in their way.
+fn watch<
+    H: Wait + Drop,
+    T: Ledgers,
+    N: Opening,
+    I: LinkIn + Drop,
+    O: LinkOut + Drop,
+    S: Source<I> + Sink<O>,
+>(common: &Common<H, T, N, I, O, S>, number: usize) {
+    for _ in common.rt.forever() {
+        let before = common.signs.worked();
+        let seen = common.signs.receives.load(Ordering::SeqCst);
+        let is_woken = common.sleepers.nap(&common.rt, number);
+        common.signs.tell_watched(before);
+        if is_woken || common.signs.is_over() || common.signs.is_look_due(before, seen) {
+            break;
+        }
+        // A wake-up that was lost just before this costs a millisecond.
+        common.sleepers.lie_down(number);
+    }
+    common.sleepers.end_watch();
 }

@@ -13,6 +13,8 @@ use table_shared::{Opening, SharedTable};
 pub struct Signs {
     /// Whether there may be replies that nobody has offered yet.
     pub is_ready: AtomicBool,
+    /// Whether a thread has the reader.
+    pub is_reading: AtomicBool,
     /// Whether the writer saw the link break.
     pub is_broken: AtomicBool,
     /// Whether no more jobs will be queued.
@@ -33,6 +35,10 @@ pub struct Signs {
 /// If fewer jobs than this are worked on in the millisecond of a watching thread, they are few.
 const FEW: u64 = 16;
 
+/// If this many jobs or more are worked on in that millisecond, they are so short that one thread does them sooner than
+/// two that wait for each other.
+const MANY: u64 = 48;
+
 /// Above this value, which is reached if more than one receive in five finds a request waiting, more threads should
 /// receive.
 const BACKLOG: u64 = 16;
@@ -44,6 +50,7 @@ impl Signs {
     pub fn new() -> Signs {
         Signs {
             is_ready: AtomicBool::new(false),
+            is_reading: AtomicBool::new(false),
             is_broken: AtomicBool::new(false),
             is_over: AtomicBool::new(false),
             receives: AtomicU64::new(0),
@@ -92,6 +99,16 @@ impl Signs {
     pub fn tell_watched(&self, before: u64) {
         let is_slow = self.is_busy() && self.worked().wrapping_sub(before) < FEW;
         self.is_slow.store(is_slow, Ordering::SeqCst);
+    }
+
+    /// Whether a thread that has watched should look what is to be done; `before` is how many jobs were worked on before
+    /// that, and `seen` how many receives had been made. It should where jobs take long, where some wait and few were
+    /// worked on, and where nothing came.
+    pub fn is_look_due(&self, before: u64, seen: u64) -> bool {
+        let worked = self.worked();
+        let waiting = self.queued.load(Ordering::SeqCst).wrapping_sub(worked) > 1;
+        let is_crowded = waiting && worked.wrapping_sub(before) < MANY;
+        is_crowded || self.is_slow() || self.receives.load(Ordering::SeqCst) == seen
     }
 
     /// Notes whether the request of a receive had been waiting. Receives are made one after another.

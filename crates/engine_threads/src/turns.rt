@@ -99,12 +99,14 @@ pub fn read<
     O: LinkOut + Drop,
     S: Source<I> + Sink<O>,
 >(common: &Common<H, T, N, I, O, S>, number: usize) -> bool {
-    if common.signs.is_over() {
+    // This is asked first, since trying the lock again and again would slow down the thread that has it.
+    if common.signs.is_over() || common.signs.is_reading.load(Ordering::SeqCst) {
         return false;
     }
     let Some(mut reader) = common.reader.try_lock() else {
         return false;
     };
+    common.signs.is_reading.store(true, Ordering::SeqCst);
     // A receive may take long, and a thread that is receiving must not be woken.
     common.sleepers.get_up(number);
     let before = reader.reader.next;
@@ -118,6 +120,7 @@ pub fn read<
     let was_waiting = reader.link.was_waiting();
     let has_ended = is_broken || reader.end.is_some();
     common.signs.tell_backlog(was_waiting);
+    common.signs.is_reading.store(false, Ordering::SeqCst);
     drop(reader);
     if was_waiting && common.signs.has_backlog() {
         // While this thread works, nobody receives what may still be waiting there.

@@ -6,3 +6,4 @@ pub mod Batching
 pub mod Crossing
 pub mod HasRead
 pub mod HasWritten
+pub mod JobsMet

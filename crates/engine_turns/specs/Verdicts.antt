@@ -1,5 +1,6 @@
 -- What the reader queues: the frames that it receives, each with the verdict whether a version was agreed on before it.
 use Rattle.std.specs.Prelude.{ℕ, ◌≡◌, ◌⊎◌, Bool, List, [], ◌∷◌, ◌++◌, length, Option, Some, None}
+use Rattle.terms.specs.declared.settings.Names.TheVariants.{Bytes}
 use Rattle.wire.specs.Faults.{IsFirstFault}
 use Rattle.wire.specs.NextFrame.{IsWhole}
 use Rattle.wire.specs.Requests.{IsFramed, IsRequest, opcode_in}
@@ -20,13 +21,14 @@ abbrev pub greeted : Option Negotiated → (before : Bool) → Bool
 greeted None before = before
 greeted (Some answer) before = agrees answer before
 
--- whether a version is agreed on after a frame: only by a valid INIT, when none was agreed on before
+-- whether a version is agreed on after a frame: only by a valid INIT, when none was agreed on before. INIT and DESTROY
+-- have no names, so they are the same requests whichever names a session takes
 abbrev pub VerdictBy : Class → (before : Bool) → List ℕ → (now : Bool) → Type 0
 VerdictBy Ignored before frame now = now ≡ before
 VerdictBy Unexpected before frame now = now ≡ before
 VerdictBy InitFrame before frame now =
-    ((q : Request) × IsRequest frame q × (now ≡ greeted (negotiated_by q.operation) before))
-    ⊎ ((fault : WireFault) × IsFirstFault frame fault × (now ≡ before))
+    ((q : Request) × IsRequest Bytes frame q × (now ≡ greeted (negotiated_by q.operation) before))
+    ⊎ ((fault : WireFault) × IsFirstFault Bytes frame fault × (now ≡ before))
 VerdictBy DestroyFrame before frame now = now ≡ before
 VerdictBy Asking before frame now = now ≡ before
 
@@ -37,7 +39,7 @@ IsVerdict before frame now = VerdictBy (class before (opcode_in frame)) before f
 pub record EndsSession (agreed : Bool) (frame : List ℕ) : Type 0 where
   pub class_is : class agreed (opcode_in frame) ≡ DestroyFrame
   pub request : Request
-  pub is_request : IsRequest frame request
+  pub is_request : IsRequest Bytes frame request
 
 -- a frame that was queued, with the verdict
 pub record Queued : Type 0 where

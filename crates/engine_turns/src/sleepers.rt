@@ -63,23 +63,33 @@ impl Sleepers {
         }
     }
 
-    /// Sleeps until another thread wakes this one. If the caller wants that, one thread at a time sleeps for at most a
-    /// millisecond; the result says whether this was the one.
-    pub fn sleep<H: Wait>(&self, rt: &H, number: usize, is_watch_wanted: bool) -> bool {
-        let Some(place) = self.places.get(number) else {
-            return false;
-        };
-        let watches = is_watch_wanted && !self.is_watched.swap(true, Ordering::SeqCst);
-        if watches {
-            place
-                .parker
-                .park_timeout(rt, Duration::from_millis(NAP_MILLIS));
-            self.is_watched.store(false, Ordering::SeqCst);
-        } else {
+    /// Sleeps until another thread wakes this one.
+    pub fn sleep<H: Wait>(&self, rt: &H, number: usize) {
+        if let Some(place) = self.places.get(number) {
             place.parker.park(rt);
+            place.is_asleep.store(false, Ordering::SeqCst);
         }
-        place.is_asleep.store(false, Ordering::SeqCst);
-        watches
+    }
+
+    /// Whether the caller is from now on the one thread that looks by itself, until it ends that.
+    pub fn begin_watch(&self) -> bool {
+        !self.is_watched.swap(true, Ordering::SeqCst)
+    }
+
+    /// Sleeps for at most a millisecond, as the thread that looks by itself. Returns whether another thread woke it.
+    pub fn nap<H: Wait>(&self, rt: &H, number: usize) -> bool {
+        let Some(place) = self.places.get(number) else {
+            return true;
+        };
+        place
+            .parker
+            .park_timeout(rt, Duration::from_millis(NAP_MILLIS));
+        !place.is_asleep.swap(false, Ordering::SeqCst)
+    }
+
+    /// The caller looks by itself no more.
+    pub fn end_watch(&self) {
+        self.is_watched.store(false, Ordering::SeqCst);
     }
 
     /// Whether one of the sleeping threads will look by itself.

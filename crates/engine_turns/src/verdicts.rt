@@ -6,6 +6,7 @@ ghost use Rattle.engine_turns.specs.Verdicts.{greeted, EndsSession, IsVerdict};
 
 use crate::job::Job;
 use engine::Class;
+use terms::Names;
 use wire::{Negotiated, Operation, decode, negotiate};
 
 /// Whether a version is agreed on by an operation, or was before.
@@ -27,12 +28,12 @@ fn greeted(operation: Operation<'_>, before: bool) -> bool
 }
 
 impl Job {
-    /// Whether a version is agreed on after its frame.
+    /// Whether a version is agreed on after its frame. An INIT has no names, so it is the same in any session.
     pub(crate) fn agrees_after(&self) -> bool
         ensures { IsVerdict self.now.agreed self.now.frame.items result }
     {
         match self.class {
-            Class::InitFrame => match decode(self.frame.as_slice()) {
+            Class::InitFrame => match decode(self.frame.as_slice(), Names::Bytes) {
                 Ok(request) => greeted(request.operation, self.agreed),
                 Err(_fault) => self.agreed,
             },
@@ -46,7 +47,7 @@ impl Job {
         ensures no { IsFalse result → EndsSession self.now.agreed self.now.frame.items → ⊥ }
     {
         match self.class {
-            Class::DestroyFrame => decode(self.frame.as_slice()).is_ok(),
+            Class::DestroyFrame => decode(self.frame.as_slice(), Names::Bytes).is_ok(),
             Class::Ignored | Class::Unexpected | Class::InitFrame | Class::Asking => false,
         }
     }

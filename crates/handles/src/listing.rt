@@ -109,7 +109,7 @@ fn with_dots(alloc: Global, names: Vec<Child>) -> Result<Vec<Child>, AllocError>
 fn folder(alloc: Global, name: &str) -> Result<Child, AllocError>
     ensures { IfOk result (λ child. child ≡ folder_at name.now) }
 {
-    let name = Name::copy_of(alloc, name)?;
+    let name = Name::from_text(alloc, name)?;
     Ok(Child {
         name,
         kind: Kind::Folder,

@@ -19,7 +19,7 @@ const MAX_NAME_LEN: usize = 255;
 fn is_lawful(name: &Name) -> bool
     ensures { result ≡ is_lawful name.now }
 {
-    let bytes = name.as_str().as_bytes();
+    let bytes = name.as_bytes();
     !bytes.is_empty()
         && bytes.len() <= MAX_NAME_LEN
         && bytes != b".".as_slice()
@@ -32,7 +32,7 @@ fn is_lawful(name: &Name) -> bool
 fn compare(a: &Child, b: &Child) -> Ordering
     ensures { result ≡ by_name a.now b.now }
 {
-    a.name.as_str().as_bytes().cmp(b.name.as_str().as_bytes())
+    a.name.as_bytes().cmp(b.name.as_bytes())
 }
 
 /// Whether each name is lawful.
@@ -65,6 +65,10 @@ pub(crate) fn in_order(children: Children) -> Option<Vec<Child>>
     if !all_lawful(&names) {
         return None;
     }
+    // A folder of a disk tells them in order.
+    if are_rising(&names) {
+        return Some(names);
+    }
     sort(&mut names);
     if !are_rising(&names) {
         return None;
@@ -76,5 +80,5 @@ pub(crate) fn in_order(children: Children) -> Option<Vec<Child>>
 pub(crate) fn drop_reserved(children: &mut Vec<Child>)
     ensures { children.new.items ≡ filter (λ child. not (is_reserved child.name)) children.old.items }
 {
-    children.retain(|child| !is_reserved(child.name.as_str()));
+    children.retain(|child| !is_reserved(child.name.as_bytes()));
 }

@@ -61,5 +61,5 @@ fn padded_len(entry: &Child, plus: bool) -> u64
     ensures { result ≡ padded plus entry.now }
 {
     let head = if plus { HEAD_LEN_PLUS } else { HEAD_LEN };
-    (head + entry.name.as_str().as_bytes().len() as u64 + 7) / 8 * 8
+    (head + entry.name.as_bytes().len() as u64 + 7) / 8 * 8
 }

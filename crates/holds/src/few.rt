@@ -45,18 +45,18 @@ impl<T: Drop> Few<T> {
     pub(crate) fn push(&mut self, alloc: Global, item: T) -> Result<(), AllocError>
         ensures { OnOk result (items_of self.new ≡ items_of self.old ++ item ∷ []) }
     {
-        match mem::replace(self, Few::Nothing) {
+        match self {
             Few::Nothing => *self = Few::One(item),
-            Few::One(first) => {
+            Few::One(_) => {
+                let Few::One(first) = mem::replace(self, Few::Nothing) else {
+                    unreachable!();
+                };
                 let mut items = Vec::with_capacity(alloc, 2)?;
                 items.push(first)?;
                 items.push(item)?;
                 *self = Few::Many(items);
             }
-            Few::Many(mut items) => {
-                items.push(item)?;
-                *self = Few::Many(items);
-            }
+            Few::Many(items) => items.push(item)?,
         }
         Ok(())
     }

@@ -3,7 +3,8 @@ use Rattle.std.proofs.Common.{◌≡◌, ◌≢◌, ◌<◌, ◌+◌, ◌==◌, 
 use Rattle.std.proofs.lemmas.Bool.{ne_eqb, cond-false}
 use Rattle.std.proofs.lemmas.List.{append-nil, length-drop}
 use Rattle.std.proofs.lemmas.List.Elements.{All-head, All-tail}
-use Rattle.linux_disk.specs.Listings.{last_name, names_from, Tells, TellsAll, AddsName, ReadsParts, ReadsNext, ReadsOn, ListsAll}
+use Rattle.linux_disk.specs.Listings.{last_name, names_from, Tells, TellsAll, AddsName, ReadsParts, ReadsNext, ReadsOn}
+use Rattle.terms.specs.declared.settings.Names.{Names}
 use Rattle.os.specs.Paths.{HasNoNul}
 use Rattle.std.proofs.lemmas.Bool.{cases_lt}
 use Rattle.std.proofs.lemmas.List.{take-append-drop, drop-drop, take_all, drop_all}
@@ -12,11 +13,11 @@ use Rattle.std.proofs.Math.Seq.{drop-cons}
 use mathlib.Core.List.{append_assoc}
 
 -- what is told of the names before that place
-pub record AddsSoFar (listed : List ℕ) (at : ℕ) (old new : List (List ℕ)) : Type 0 where
+pub record AddsSoFar (shown : Names) (listed : List ℕ) (at : ℕ) (old new : List (List ℕ)) : Type 0 where
   pub names : List (List ℕ)
   pub told : List (List ℕ)
   pub split : names_from [] listed ≡ names ++ names_from [] (drop at listed)
-  pub tells : TellsAll names told
+  pub tells : TellsAll shown names told
   pub longer : new ≡ old ++ told
 
 -- a name, and the NUL behind it
@@ -38,14 +39,14 @@ name_at_end begin (byte ∷ name) plain =
     ∙ ap last_name (append_assoc begin (byte ∷ []) name)
 
 -- what is told of some names, and then of others
-pub tells_both : (xs ys told told' : List (List ℕ)) → TellsAll xs told → TellsAll ys told' → TellsAll (xs ++ ys) (told ++ told')
-tells_both [] ys told told' e tells = subst (λ (t : List (List ℕ)). TellsAll ys (t ++ told')) (sym e) tells
-tells_both (x ∷ xs) ys told told' (first, rest, one, all, e) tells =
-    (first, rest ++ told', one, tells_both xs ys rest told' all tells, ap (λ (t : List (List ℕ)). t ++ told') e ∙ append_assoc first rest told')
+pub tells_both : (shown : Names) (xs ys told told' : List (List ℕ)) → TellsAll shown xs told → TellsAll shown ys told' → TellsAll shown (xs ++ ys) (told ++ told')
+tells_both shown [] ys told told' e tells = subst (λ (t : List (List ℕ)). TellsAll shown ys (t ++ told')) (sym e) tells
+tells_both shown (x ∷ xs) ys told told' (first, rest, one, all, e) tells =
+    (first, rest ++ told', one, tells_both shown xs ys rest told' all tells, ap (λ (t : List (List ℕ)). t ++ told') e ∙ append_assoc first rest told')
 
 -- what is told of one name
-pub tells_one : (name : List ℕ) (told : List (List ℕ)) → Tells name told → TellsAll (name ∷ []) told
-tells_one name told one = (told, [], one, refl, sym (append-nil told))
+pub tells_one : (shown : Names) (name : List ℕ) (told : List (List ℕ)) → Tells shown name told → TellsAll shown (name ∷ []) told
+tells_one shown name told one = (told, [], one, refl, sym (append-nil told))
 
 last_name_some : (name : List ℕ) → 0 < length name → last_name name ≡ name ∷ []
 last_name_some [] some = absurd (omega (arith, some))
@@ -67,8 +68,8 @@ first_of bytes n some plain nul = elim (cases_lt n (length bytes)) [
 ]
 
 -- one name more
-pub adds_on : (listed : List ℕ) (at n : ℕ) (old mid new : List (List ℕ)) → at < length listed → HasNoNul (take n (drop at listed)) → (n < length (drop at listed) → slice_index (drop at listed) n ≡ 0) → AddsSoFar listed at old mid → AddsName (take n (drop at listed)) mid new → AddsSoFar listed (at + (n + 1)) old new
-adds_on listed at n old mid new within no_nul nul so_far adds =
+pub adds_on : (shown : Names) (listed : List ℕ) (at n : ℕ) (old mid new : List (List ℕ)) → at < length listed → HasNoNul (take n (drop at listed)) → (n < length (drop at listed) → slice_index (drop at listed) n ≡ 0) → AddsSoFar shown listed at old mid → AddsName shown (take n (drop at listed)) mid new → AddsSoFar shown listed (at + (n + 1)) old new
+adds_on shown listed at n old mid new within no_nul nul so_far adds =
     let name : List ℕ = take n (drop at listed) in
     let plain : All (λ byte. byte ≢ 0) name = All-from_get_or (λ byte. byte ≢ 0) name 0 no_nul in
     let some : 0 < length (drop at listed) = simp length-drop (omega arith) in
@@ -78,17 +79,17 @@ adds_on listed at n old mid new within no_nul nul so_far adds =
       names = so_far.names ++ name ∷ [];
       told = so_far.told ++ adds.told;
       split = so_far.split ∙ ap (λ (more : List (List ℕ)). so_far.names ++ more) rest ∙ sym (append_assoc so_far.names (name ∷ []) (names_from [] (drop (at + (n + 1)) listed)));
-      tells = tells_both so_far.names (name ∷ []) so_far.told adds.told so_far.tells (tells_one name adds.told adds.tells);
+      tells = tells_both shown so_far.names (name ∷ []) so_far.told adds.told so_far.tells (tells_one shown name adds.told adds.tells);
       longer = adds.longer ∙ ap (λ (all : List (List ℕ)). all ++ adds.told) so_far.longer ∙ append_assoc old so_far.told adds.told;
     }
 
 -- the same, of the pieces that the code cuts
-pub adds_piece : (listed rest name : List ℕ) (at n : ℕ) (old mid new : List (List ℕ)) → rest ≡ drop at listed → name ≡ take n rest → at < length listed → HasNoNul (take n rest) → (n < length rest → slice_index rest n ≡ 0) → AddsSoFar listed at old mid → AddsName name mid new → AddsSoFar listed (at + (n + 1)) old new
-adds_piece listed rest name at n old mid new cut cut' within no_nul nul so_far adds =
+pub adds_piece : (shown : Names) (listed rest name : List ℕ) (at n : ℕ) (old mid new : List (List ℕ)) → rest ≡ drop at listed → name ≡ take n rest → at < length listed → HasNoNul (take n rest) → (n < length rest → slice_index rest n ≡ 0) → AddsSoFar shown listed at old mid → AddsName shown name mid new → AddsSoFar shown listed (at + (n + 1)) old new
+adds_piece shown listed rest name at n old mid new cut cut' within no_nul nul so_far adds =
     let Named : List ℕ → Type 0 = λ (piece : List ℕ). HasNoNul (take n piece) in
     let Ended : List ℕ → Type 0 = λ (piece : List ℕ). n < length piece → slice_index piece n ≡ 0 in
-    let Added : List ℕ → Type 0 = λ (piece : List ℕ). AddsName piece mid new in
-    adds_on listed at n old mid new within (subst Named cut no_nul) (subst Ended cut nul) so_far (subst Added (cut' ∙ ap (take n) cut) adds)
+    let Added : List ℕ → Type 0 = λ (piece : List ℕ). AddsName shown piece mid new in
+    adds_on shown listed at n old mid new within (subst Named cut no_nul) (subst Ended cut nul) so_far (subst Added (cut' ∙ ap (take n) cut) adds)
 
 -- ---- parts
 
@@ -101,12 +102,12 @@ names_on : (parts : List (List ℕ)) (part : List ℕ) → flat_map (names_from 
 names_on [] part = append-nil (names_from [] part)
 names_on (first ∷ parts) part = ap (λ (names : List (List ℕ)). names_from [] first ++ names) (names_on parts part) ∙ sym (append_assoc (names_from [] first) (flat_map (names_from []) parts) (names_from [] part))
 
-pub reads_on : {K : Type 0} (advances : K → List ℕ → K → Type 0) (old mid new : K) (names names' : List (List ℕ)) (more : Bool) → ReadsOn advances old mid names → ReadsNext advances mid new names names' more → ReadsOn advances old new names'
-reads_on advances old mid new names names' more on next = record {
+pub reads_on : {K : Type 0} (shown : Names) (advances : K → List ℕ → K → Type 0) (old mid new : K) (names names' : List (List ℕ)) (more : Bool) → ReadsOn shown advances old mid names → ReadsNext shown advances mid new names names' more → ReadsOn shown advances old new names'
+reads_on shown advances old mid new names names' more on next = record {
   parts = on.parts ++ next.part ∷ [];
   read = parts_on advances old mid new on.parts next.part on.read next.read;
   tells =
-      let both : TellsAll (flat_map (names_from []) on.parts ++ names_from [] next.part) (names ++ next.adds.told) = tells_both _ _ names next.adds.told on.tells next.adds.tells in
-      subst (λ (told : List (List ℕ)). TellsAll (flat_map (names_from []) (on.parts ++ next.part ∷ [])) told) (sym next.adds.longer)
-      (subst (λ (all : List (List ℕ)). TellsAll all (names ++ next.adds.told)) (sym (names_on on.parts next.part)) both);
+      let both : TellsAll shown (flat_map (names_from []) on.parts ++ names_from [] next.part) (names ++ next.adds.told) = tells_both shown _ _ names next.adds.told on.tells next.adds.tells in
+      subst (λ (told : List (List ℕ)). TellsAll shown (flat_map (names_from []) (on.parts ++ next.part ∷ [])) told) (sym next.adds.longer)
+      (subst (λ (all : List (List ℕ)). TellsAll shown all (names ++ next.adds.told)) (sym (names_on on.parts next.part)) both);
 }

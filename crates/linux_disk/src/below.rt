@@ -33,12 +33,7 @@ impl<C: SystemCalls + Drop, S: FileStore<Fd = C::Fd> + Drop> Linux<C, S> {
         ensures leads { OnOk result (Reaches C.guards (C.number (held_value dir.now.held)) dir.now.below name.now page.new) }
     {
         match &dir.below {
-            None => place(
-                page,
-                b"",
-                self.calls.number(dir.fd()),
-                name.as_str().as_bytes(),
-            ),
+            None => place(page, b"", self.calls.number(dir.fd()), name.as_bytes()),
             Some(way) => self.reach_below(page, dir.fd(), way, name),
         }
     }
@@ -60,7 +55,7 @@ impl<C: SystemCalls + Drop, S: FileStore<Fd = C::Fd> + Drop> Linux<C, S> {
             self.guard.text.text(),
             self.calls.number(above),
             way.text(),
-            name.as_str().as_bytes(),
+            name.as_bytes(),
         )
     }
 
@@ -146,7 +141,7 @@ impl<C: SystemCalls + Drop, S: FileStore<Fd = C::Fd> + Drop> Linux<C, S> {
         ensures { IfOk result (λ fd. WasOpenedDir C.did C.guards (C.stamp (held_value dir.now.held)) (C.number (held_value dir.now.held)) dir.now.below name.now (C.stamp fd)) }
     {
         match &dir.below {
-            None => again::open_dir(&self.calls, dir.fd(), name.as_str().as_bytes()),
+            None => again::open_dir(&self.calls, dir.fd(), name.as_bytes()),
             Some(way) => {
                 self.reach_below(page, dir.fd(), way, name)?;
                 again::open_dir_at(&self.calls, dir.fd(), page)
@@ -162,7 +157,7 @@ impl<C: SystemCalls + Drop, S: FileStore<Fd = C::Fd> + Drop> Linux<C, S> {
         let stat = self.look_at(page, dir, name)?;
         match stat.kind {
             Some(Kind::Folder) => {
-                let way = Way::into(self.alloc, &dir.below, name.as_str().as_bytes())?;
+                let way = Way::into(self.alloc, &dir.below, name.as_bytes())?;
                 let above = again::open_again(&self.calls, dir.fd())?;
                 Ok(Handle::entered(above, way))
             }

@@ -4,12 +4,13 @@ ghost use Rattle.std.specs.Prelude.{ℕ, List, [], ◌≡◌, ◌<◌, ◌≤◌
 ghost use Rattle.disk.specs.Names.{IsLawfulName, IsLinkText};
 ghost use Rattle.linux_disk.specs.Calls.{Done, Looked, LookedAt, Inspected, OpenedAgain, OpenedDir, OpenedDirAt, OpenedFile, Read, Wrote, SetLen, Synced, Set, SetAt, MadeFile, MadeDir, ReadLink, MadeLink, RemovedFile, RemovedFileAt, RemovedDir, RemovedDirAt, Renamed, Linked};
 ghost use Rattle.terms.specs.declared.settings.Kinds.{Kinds as Shown};
+ghost use Rattle.terms.specs.declared.settings.Names.{Names as Spelled};
 ghost use Rattle.linux_disk.specs.Places.{IsBelow, IsReached, IsSafe, way_to};
 
 use crate::page::Page;
 use disk::{Access, Change, DiskError, Stat};
 use std::alloc::AllocError;
-use terms::Kinds;
+use terms::{Kinds, Names};
 
 /// A system. What is handed to it is one lawful name below a folder that is open, or behind a guard some, and nothing else. Each call is made once: one that a signal
 /// ended (EINTR) has failed.
@@ -50,6 +51,9 @@ pub trait SystemCalls {
     /// Of which kinds a look shows what stands there.
     ghost kinds: { Self → Shown };
 
+    /// Which names a listing has.
+    ghost names: { Self → Spelled };
+
     /// The same system once more, for another thread. No stamp comes twice.
     fn share(&self) -> Result<Self, AllocError>;
 
@@ -72,6 +76,10 @@ pub trait SystemCalls {
     /// Of which kinds a look shows what stands there.
     fn kinds(&self) -> Kinds
         ensures { result ≡ kinds self.now };
+
+    /// Which names a listing has.
+    fn names(&self) -> Names
+        ensures { result ≡ names self.now };
 
     /// Milliseconds by a clock that does not go back, 0 where there is none.
     fn milliseconds(&self) -> u64;

@@ -17,7 +17,7 @@ use std::alloc::{AllocError, Global};
 use std::os::fd::AsRawFd;
 use std::sync::Arc;
 use std::sync::atomic::{AtomicU64, Ordering};
-use terms::Kinds;
+use terms::{Kinds, Names, Settings};
 
 /// The folder of the process's descriptors.
 const DESCRIPTORS: &[u8] = b"/proc/self/fd";
@@ -29,6 +29,8 @@ pub struct LibC {
     stamps: Arc<AtomicU64>,
     /// What a look shows.
     kinds: Kinds,
+    /// What a listing has.
+    names: Names,
     /// By whose rights it acts.
     user: u32,
     /// Which bits it takes of what it makes.
@@ -36,11 +38,13 @@ pub struct LibC {
 }
 
 impl LibC {
-    /// Nothing was opened yet, and a look shows these kinds. The mask is read once: `open`, `read` and `close`.
-    pub fn new(alloc: Global, kinds: Kinds) -> Result<LibC, AllocError> {
+    /// Nothing was opened yet; a look shows the kinds of these settings, and a listing has their names. The mask is read
+    /// once: `open`, `read` and `close`.
+    pub fn new(alloc: Global, settings: Settings) -> Result<LibC, AllocError> {
         Ok(LibC {
             stamps: Arc::new(alloc, AtomicU64::new(0))?,
-            kinds,
+            kinds: settings.kinds,
+            names: settings.names,
             user: libc::geteuid(),
             mask: read_mask(),
         })
@@ -86,10 +90,13 @@ impl SystemCalls for LibC {
 
     ghost kinds = { λ s. s.kinds };
 
+    ghost names = { λ s. s.names };
+
     fn share(&self) -> Result<LibC, AllocError> {
         Ok(LibC {
             stamps: Arc::try_clone(&self.stamps)?,
             kinds: self.kinds,
+            names: self.names,
             user: self.user,
             mask: self.mask,
         })
@@ -113,6 +120,10 @@ impl SystemCalls for LibC {
 
     fn kinds(&self) -> Kinds {
         self.kinds
+    }
+
+    fn names(&self) -> Names {
+        self.names
     }
 
     fn milliseconds(&self) -> u64 {

@@ -13,7 +13,7 @@ use disk::{DiskError, is_lawful};
 use errno::{EIO, ENOMEM};
 use paths::Name;
 use std::alloc::{AllocError, Global};
-use std::str;
+use terms::Names;
 
 /// So many bytes of names are asked for at once.
 const NAMES_ROOM: usize = 32_768;
@@ -25,7 +25,7 @@ impl<C: SystemCalls + Drop, S: FileStore<Fd = C::Fd> + Drop> Linux<C, S> {
         buffer: &mut Vec<u8>,
         dir: &Handle<C>,
     ) -> Result<Vec<Name>, DiskError>
-        ensures { IfOk result (λ names. HoldsOfOpen C.did C.guards (C.stamp (held_value dir.now.held)) (C.number (held_value dir.now.held)) dir.now.below (λ stamp. ListsAll C.begins C.advances stamp names.items)) }
+        ensures { IfOk result (λ names. HoldsOfOpen C.did C.guards (C.stamp (held_value dir.now.held)) (C.number (held_value dir.now.held)) dir.now.below (λ stamp. ListsAll (C.names self.now.calls) C.begins C.advances stamp names.items)) }
     {
         match &dir.below {
             None => self.list_open(buffer, dir.fd()),
@@ -36,9 +36,9 @@ impl<C: SystemCalls + Drop, S: FileStore<Fd = C::Fd> + Drop> Linux<C, S> {
         }
     }
 
-    /// The names that are text, but `.` and `..`: `lseek`, and `getdents` until there is none.
+    /// The names that are shown, but `.` and `..`: `lseek`, and `getdents` until there is none.
     fn list_open(&self, buffer: &mut Vec<u8>, dir: &C::Fd) -> Result<Vec<Name>, DiskError>
-        ensures { IfOk result (λ names. ListsAll C.begins C.advances (C.stamp dir.now) names.items) }
+        ensures { IfOk result (λ names. ListsAll (C.names self.now.calls) C.begins C.advances (C.stamp dir.now) names.items) }
     {
         let mut at = self.calls.rewind(dir)?;
         let mut names = Vec::new(self.alloc);
@@ -70,43 +70,38 @@ fn read_names<C: SystemCalls>(
     buffer: &mut Vec<u8>,
     names: &mut Vec<Name>,
 ) -> Result<bool, DiskError>
-    ensures { IfOk result (ReadsNext C.advances at.old at.new names.old.items names.new.items) }
+    ensures { IfOk result (ReadsNext (C.names calls.now) C.advances at.old at.new names.old.items names.new.items) }
 {
     let n = calls.next_names(dir, at, buffer)?;
-    match push_names(names, &buffer[..n]) {
+    match push_names(calls.names(), names, &buffer[..n]) {
         Ok(()) => Ok(n != 0),
         Err(_) => Err(DiskError::Failed(ENOMEM)),
     }
 }
 
 /// Adds the names, each of which has a NUL behind it.
-fn push_names(names: &mut Vec<Name>, listed: &[u8]) -> Result<(), AllocError>
-    ensures { OnOk result (AddsPart listed.now names.old.items names.new.items) }
+fn push_names(shown: Names, names: &mut Vec<Name>, listed: &[u8]) -> Result<(), AllocError>
+    ensures { OnOk result (AddsPart shown listed.now names.old.items names.new.items) }
 {
     let mut at = 0;
     while at < listed.len() {
         let (_, rest) = listed.split_at(at);
         let n = os::name_length(rest);
         let (name, _) = rest.split_at(n);
-        push_name(names, name)?;
+        push_name(shown, names, name)?;
         at += n + 1;
     }
     Ok(())
 }
 
-/// Adds the name, if it is one and text.
-fn push_name(names: &mut Vec<Name>, name: &[u8]) -> Result<(), AllocError>
-    ensures { OnOk result (AddsName name.now names.old.items names.new.items) }
+/// Adds the name, if it is one and spelled as those that are shown.
+fn push_name(shown: Names, names: &mut Vec<Name>, name: &[u8]) -> Result<(), AllocError>
+    ensures { OnOk result (AddsName shown name.now names.old.items names.new.items) }
 {
-    if !is_lawful(name) {
+    if !is_lawful(name) || !shown.takes(name) {
         return Ok(());
     }
-    match str::from_utf8(name) {
-        Ok(text) => {
-            let name = Name::copy_of(*names.allocator(), text)?;
-            names.push(name)?;
-            Ok(())
-        }
-        Err(_) => Ok(()),
-    }
+    let name = Name::copy_of(*names.allocator(), name)?;
+    names.push(name)?;
+    Ok(())
 }

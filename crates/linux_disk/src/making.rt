@@ -138,7 +138,7 @@ impl<C: SystemCalls + Drop, S: FileStore<Fd = C::Fd> + Drop> Linux<C, S> {
         ensures { OnOk result (WasRemovedFile C.did C.guards (C.stamp (held_value dir.now.held)) (C.number (held_value dir.now.held)) dir.now.below name.now) }
     {
         match &dir.below {
-            None => self.calls.remove_file(dir.fd(), name.as_str().as_bytes()),
+            None => self.calls.remove_file(dir.fd(), name.as_bytes()),
             Some(way) => {
                 let mut page = page_of(self.alloc, &self.path)?;
                 let told = self.unlink_below(&mut page, dir.fd(), way, name);
@@ -179,7 +179,7 @@ impl<C: SystemCalls + Drop, S: FileStore<Fd = C::Fd> + Drop> Linux<C, S> {
         ensures { OnOk result (WasRemovedDir C.did C.guards (C.stamp (held_value dir.now.held)) (C.number (held_value dir.now.held)) dir.now.below name.now) }
     {
         match &dir.below {
-            None => self.calls.remove_dir(dir.fd(), name.as_str().as_bytes()),
+            None => self.calls.remove_dir(dir.fd(), name.as_bytes()),
             Some(way) => {
                 let mut page = page_of(self.alloc, &self.path)?;
                 let told = self.unlink_dir_below(&mut page, dir.fd(), way, name);

@@ -83,7 +83,7 @@ impl<C: SystemCalls + Drop, S: FileStore<Fd = C::Fd> + Drop> Linux<C, S> {
     {
         match &dir.below {
             None => {
-                name_alone(page, name.as_str().as_bytes())?;
+                name_alone(page, name.as_bytes())?;
                 self.calls.look(dir.fd(), page)
             }
             Some(way) => {

@@ -117,7 +117,7 @@ impl<C: SystemCalls + Drop, S: FileStore<Fd = C::Fd> + Drop> Linux<C, S> {
             None => {
                 if self.is_private(page, dir)? {
                     let number = self.calls.number(dir.fd());
-                    place(page, b"", number, name.as_str().as_bytes())
+                    place(page, b"", number, name.as_bytes())
                 } else {
                     self.guarded_place(page, dir, name)
                 }
@@ -140,7 +140,7 @@ impl<C: SystemCalls + Drop, S: FileStore<Fd = C::Fd> + Drop> Linux<C, S> {
         let guard = self.guard.text.text();
         let number = self.calls.number(dir.fd());
         match &dir.below {
-            None => place(page, guard, number, name.as_str().as_bytes()),
+            None => place(page, guard, number, name.as_bytes()),
             Some(way) => self.reach_below(page, dir.fd(), way, name),
         }
     }

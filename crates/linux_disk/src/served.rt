@@ -155,7 +155,7 @@ impl<C: SystemCalls + Drop, S: FileStore<Fd = C::Fd> + Drop> System for Linux<C,
 
     /// `lseek`, and `getdents` until there is no name. A folder that could not be read is opened first: `openat`.
     fn list(&self, dir: &Handle<C>) -> Result<Vec<Name>, DiskError>
-        ensures { IfOk result (λ names. HoldsOfOpen C.did C.guards (C.stamp (held_value dir.now.held)) (C.number (held_value dir.now.held)) dir.now.below (λ stamp. ListsAll C.begins C.advances stamp names.items)) }
+        ensures { IfOk result (λ names. HoldsOfOpen C.did C.guards (C.stamp (held_value dir.now.held)) (C.number (held_value dir.now.held)) dir.now.below (λ stamp. ListsAll (C.names self.now.calls) C.begins C.advances stamp names.items)) }
     {
         let mut room = self.names_room()?;
         let told = self.list_in(&mut room, dir);

@@ -8,6 +8,8 @@ use Rattle.clap.specs.declared.builder.value_parser.ValueParser.TheVariants.{Sig
 use Rattle.terms.specs.declared.settings.Settings.{Settings}
 use Rattle.terms.specs.declared.settings.AttributeSource.{AttributeSource}
 use Rattle.terms.specs.declared.settings.AttributeSource.TheVariants.{Fixed, Host}
+use Rattle.terms.specs.declared.settings.Names.{Names}
+use Rattle.terms.specs.declared.settings.Names.TheVariants as names
 use Rattle.terms.specs.declared.settings.Kinds.{Kinds}
 use Rattle.terms.specs.declared.settings.Kinds.TheVariants.{Plain, All}
 use Rattle.terms.specs.declared.terms.Bounds.{Bounds}
@@ -72,6 +74,10 @@ counted how app = with_rule app (word_rule (codes "counts") how)
 abbrev pub shown : (kinds : Text) → App → App
 shown kinds app = with_rule app (word_rule (codes "kinds") kinds)
 
+-- with an option for which names are taken and shown
+abbrev pub named : (names : Text) → App → App
+named names app = with_rule app (word_rule (codes "names") names)
+
 -- the subcommands
 abbrev pub hex_app : App
 hex_app = bounded (shown (codes "files") (with_rule (new_app (codes "hex")) (flag_rule (codes "sample"))))
@@ -80,17 +86,17 @@ hex_app = bounded (shown (codes "files") (with_rule (new_app (codes "hex")) (fla
 abbrev pub owned : (attributes : Text) → App → App
 owned attributes app = with_rule (with_rule (with_rule app (attributes_rule attributes)) (user (codes "uid"))) (user (codes "gid"))
 
--- with options for all settings of a session but its kinds, and these defaults
+-- with options for all settings of a session but its kinds and names, and these defaults
 abbrev pub served : (attributes nodes files counts : Text) → App → App
 served attributes nodes files counts app = bounded (counted counts (limited nodes files (owned attributes app)))
 
 -- for a client of any kind
 abbrev pub served_any : App → App
-served_any app = served (codes "fixed") (codes "65536") (codes "4096") (codes "bounded") (shown (codes "files") app)
+served_any app = served (codes "fixed") (codes "65536") (codes "4096") (codes "bounded") (named (codes "text") (shown (codes "files") app))
 
--- for a kernel, which knows all kinds of files, respects owners and modes, and forgets lookups late
+-- for a kernel, which knows all kinds of files and any names, respects owners and modes, and forgets lookups late
 abbrev pub served_kernel : App → App
-served_kernel app = served (codes "host") (codes "1048576") (codes "65536") (codes "free") (shown (codes "all") app)
+served_kernel app = served (codes "host") (codes "1048576") (codes "65536") (codes "free") (named (codes "bytes") (shown (codes "all") app))
 
 abbrev pub pipe_app : App
 pipe_app = served_any (with_rule (new_app (codes "pipe")) (text_rule (codes "root")))
@@ -191,16 +197,23 @@ abbrev pub AreKinds : List Row → Kinds → Type 0
 AreKinds rows Plain = IsText (codes "kinds") rows (codes "files")
 AreKinds rows All = IsText (codes "kinds") rows (codes "all")
 
+-- which names are taken and shown
+abbrev pub AreNames : List Row → Names → Type 0
+AreNames rows names.Text = IsText (codes "names") rows (codes "text")
+AreNames rows names.Bytes = IsText (codes "names") rows (codes "bytes")
+
 -- what is shown of the folder
 pub record AreSettings (rows : List Row) (settings : Settings) : Type 0 where
   pub attributes : AreAttributes rows settings.attributes
   pub kinds : AreKinds rows settings.kinds
+  pub names : AreNames rows settings.names
 
--- why the value of an option is refused: attributes, kinds or counts are neither of their two words, attributes are those of the
+-- why the value of an option is refused: attributes, kinds, names or counts are neither of their two words, attributes are those of the
 -- host although an owner is given, a number is none, or the threads are not 1 to 4
 abbrev pub IsValueRefused : (id : Text) → List Row → OptionsRefusal → Type 0
 IsValueRefused id rows Attributes = (id ≡ codes "attributes") × (text : Text) × IsText id rows text × (text ≢ codes "fixed") × (text ≢ codes "host")
 IsValueRefused id rows refusals.Kinds = (id ≡ codes "kinds") × (text : Text) × IsText id rows text × (text ≢ codes "files") × (text ≢ codes "all")
+IsValueRefused id rows refusals.Names = (id ≡ codes "names") × (text : Text) × IsText id rows text × (text ≢ codes "text") × (text ≢ codes "bytes")
 IsValueRefused id rows refusals.Counts = (id ≡ codes "counts") × (text : Text) × IsText id rows text × (text ≢ codes "bounded") × (text ≢ codes "free")
 IsValueRefused id rows Owner = (id ≡ codes "attributes") × IsText id rows (codes "host") × ((is_given (codes "uid") rows ≡ true) ⊎ (is_given (codes "gid") rows ≡ true))
 IsValueRefused id rows refusals.Number = (takes_number id ≡ true) × (text : Text) × IsNumberText id rows text × (IsSpelt text → ⊥)

@@ -42,6 +42,7 @@ fault_message Workers = codes "1 to 4 workers can serve"
 abbrev pub refusal_message : OptionsRefusal → List ℕ
 refusal_message refusals.Attributes = codes "--attributes is fixed or host"
 refusal_message refusals.Kinds = codes "--kinds is files or all"
+refusal_message refusals.Names = codes "--names is text or bytes"
 refusal_message refusals.Counts = codes "--counts is bounded or free"
 refusal_message refusals.Owner = codes "with --attributes host there is no --uid and no --gid"
 refusal_message refusals.Number = codes "a number is written in digits, without a minus sign"

@@ -3,7 +3,7 @@
 ghost use Rattle.std.specs.Prelude.{◌≡◌, codes, false, IfOk, pos};
 ghost use Rattle.clap.specs.Words.{app_of, rule_of};
 ghost use Rattle.clap.specs.declared.builder.command.Command.TheViews.{out-Command as fields_of};
-ghost use Rattle.mirrord_commands.specs.CommandLine.{attributes_rule, bounded, counted, flag_rule, limited, owned, number_rule, served, shown, single_rule, staffed, text_rule, user, word_rule};
+ghost use Rattle.mirrord_commands.specs.CommandLine.{attributes_rule, bounded, counted, flag_rule, limited, named, owned, number_rule, served, shown, single_rule, staffed, text_rule, user, word_rule};
 
 use clap::builder::ValueParser;
 use clap::{Arg, ArgAction, Command};
@@ -19,6 +19,9 @@ const ATTRIBUTES: &str =
 
 const KINDS: &str =
     "What is shown of the folder: files (and folders, nothing else), or all (links, pipes, sockets and devices too)";
+
+const NAMES: &str =
+    "Which names are taken and shown: text (UTF-8, nothing else), or bytes (all that the folder can hold)";
 
 const UID: &str =
     "The user that each file and folder is told to belong to, if not 0; with fixed attributes";
@@ -192,6 +195,20 @@ pub(crate) fn with_kinds<'a>(
     command.arg(word_option(alloc, "kinds", "WHICH", kinds, KINDS))
 }
 
+/// The command, with options for which kinds of files are shown, and which names are taken and shown.
+pub(crate) fn with_shown<'a>(
+    alloc: Global,
+    kinds: &'a str,
+    names: &'a str,
+    command: Command<'a>,
+) -> Result<Command<'a>, AllocError>
+    ensures app { IfOk result (λ c. app_of c ≡ named names.entry.now (shown kinds.entry.now (app_of command.entry))) }
+    ensures local { (fields_of command.entry).has_globals ≡ false → IfOk result (λ c. (fields_of c).has_globals ≡ false) }
+{
+    let shown = with_kinds(alloc, kinds, command)?;
+    shown.arg(word_option(alloc, "names", "WHICH", names, NAMES))
+}
+
 /// The command, with options for whose attributes are reported, and for a user and a group.
 fn with_owner<'a>(
     alloc: Global,
@@ -207,7 +224,7 @@ fn with_owner<'a>(
         .arg(owner_option(alloc, "gid", GID))
 }
 
-/// The command, with options for all settings of a session but its kinds, and these defaults.
+/// The command, with options for all settings of a session but its kinds and names, and these defaults.
 pub(crate) fn with_terms<'a>(
     alloc: Global,
     attributes: &'a str,

@@ -5,7 +5,9 @@ ghost use Rattle.clap.specs.Words.{app_of};
 ghost use Rattle.clap.specs.declared.builder.command.Command.TheViews.{out-Command as fields_of};
 ghost use Rattle.mirrord_commands.specs.CommandLine.{bare_app, device_app, hex_app, mirrord_app, pipe_app, serve_app, stream_app};
 
-use crate::arguments::{flag, text_option, with_kinds, with_postings, with_terms, with_workers};
+use crate::arguments::{
+    flag, text_option, with_kinds, with_postings, with_shown, with_terms, with_workers,
+};
 use clap::Command;
 use std::alloc::{AllocError, Global};
 
@@ -35,7 +37,7 @@ const DEVICE: &str =
 
 const DEVICE_EXAMPLE: &str =
     "examples/mount opens the device, mounts it and starts this program. What is taken where nothing is said \
-    is what a\nkernel as the client wants: all kinds of files, attributes of the host, counts that nothing bounds, a million nodes.";
+    is what a\nkernel as the client wants: all kinds of files, any names, attributes of the host, counts that nothing bounds, a million nodes.";
 
 const HEX: &str =
     "Serves a tree in memory: requests are read, and replies written, as lines of hexadecimal digits";
@@ -70,7 +72,7 @@ fn pipe_command<'a>(alloc: Global) -> Result<Command<'a>, AllocError>
         .about(PIPE)
         .after_help(PIPE_EXAMPLE)
         .arg(text_option(alloc, "root", "DIR", ROOT))?;
-    let shown = with_kinds(alloc, "files", rooted)?;
+    let shown = with_shown(alloc, "files", "text", rooted)?;
     with_terms(alloc, "fixed", "65536", "4096", "bounded", shown)
 }
 
@@ -84,7 +86,7 @@ fn serve_command<'a>(alloc: Global) -> Result<Command<'a>, AllocError>
         .arg(text_option(alloc, "root", "DIR", ROOT))?
         .arg(text_option(alloc, "socket", "PATH", SOCKET))?;
     let staffed = with_workers(alloc, placed)?;
-    let shown = with_kinds(alloc, "files", staffed)?;
+    let shown = with_shown(alloc, "files", "text", staffed)?;
     with_terms(alloc, "fixed", "65536", "4096", "bounded", shown)
 }
 
@@ -97,7 +99,7 @@ fn device_command<'a>(alloc: Global) -> Result<Command<'a>, AllocError>
         .after_help(DEVICE_EXAMPLE)
         .arg(text_option(alloc, "root", "DIR", ROOT))?;
     let staffed = with_workers(alloc, rooted)?;
-    let shown = with_kinds(alloc, "all", staffed)?;
+    let shown = with_shown(alloc, "all", "bytes", staffed)?;
     with_terms(alloc, "host", "1048576", "65536", "free", shown)
 }
 

@@ -11,6 +11,8 @@ pub enum OptionsRefusal {
     Attributes,
     /// `--kinds` is neither `files` nor `all`.
     Kinds,
+    /// `--names` is neither `text` nor `bytes`.
+    Names,
     /// `--counts` is neither `bounded` nor `free`.
     Counts,
     /// An owner is given, although the attributes are to be the host's, which include the owners.
@@ -31,6 +33,7 @@ impl Display for OptionsRefusal {
         match self {
             OptionsRefusal::Attributes => f.write_str("--attributes is fixed or host"),
             OptionsRefusal::Kinds => f.write_str("--kinds is files or all"),
+            OptionsRefusal::Names => f.write_str("--names is text or bytes"),
             OptionsRefusal::Counts => f.write_str("--counts is bounded or free"),
             OptionsRefusal::Owner => f.write_str(
                 "with --attributes host there is no --uid and no --gid",

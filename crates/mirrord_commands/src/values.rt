@@ -2,11 +2,11 @@
 
 ghost use Rattle.std.specs.Prelude.{◌≡◌, codes, true, IfErr, IfOk, MatchOption};
 ghost use Rattle.clap.specs.Words.{first_of, found_of, rows_of};
-ghost use Rattle.mirrord_commands.specs.CommandLine.{AreAttributes, AreBounds, AreCounts, AreKinds, AreRefused, AreSettings, AreTerms, AreWorkers, IsFlag, IsNumber, IsSpelt, IsText, IsValueRefused, Spells, TextReads, is_given, takes_number};
+ghost use Rattle.mirrord_commands.specs.CommandLine.{AreAttributes, AreBounds, AreCounts, AreKinds, AreNames, AreRefused, AreSettings, AreTerms, AreWorkers, IsFlag, IsNumber, IsSpelt, IsText, IsValueRefused, Spells, TextReads, is_given, takes_number};
 
 use crate::refusals::OptionsRefusal;
 use clap::ArgMatches;
-use terms::{AttributeSource, Bounds, Counts, Kinds, Settings, Terms};
+use terms::{AttributeSource, Bounds, Counts, Kinds, Names, Settings, Terms};
 
 /// The text of an option, or this one if there is none.
 fn text_or<'a>(matches: &ArgMatches<'a>, name: &str, none: &'a str) -> &'a str
@@ -143,6 +143,22 @@ pub(crate) fn kinds_in(matches: &ArgMatches<'_>) -> Result<Kinds, OptionsRefusal
     Ok(Kinds::All)
 }
 
+/// Which names are taken and shown.
+fn names_in(matches: &ArgMatches<'_>) -> Result<Names, OptionsRefusal>
+    ensures ok { IfOk result (AreNames (rows_of (found_of matches.now))) }
+    // Each subcommand that serves a folder has this option, and `pipe` has no number of workers besides.
+    ensures err { IfErr result (AreRefused (codes "pipe") (rows_of (found_of matches.now))) }
+{
+    let names = text_in(matches, "names");
+    if names == "text" {
+        return Ok(Names::Text);
+    }
+    if names != "bytes" {
+        return Err(OptionsRefusal::Names);
+    }
+    Ok(Names::Bytes)
+}
+
 /// What is shown of the folder.
 fn settings_in(matches: &ArgMatches<'_>) -> Result<Settings, OptionsRefusal>
     ensures ok { IfOk result (AreSettings (rows_of (found_of matches.now))) }
@@ -151,7 +167,12 @@ fn settings_in(matches: &ArgMatches<'_>) -> Result<Settings, OptionsRefusal>
 {
     let attributes = attributes_in(matches)?;
     let kinds = kinds_in(matches)?;
-    Ok(Settings { attributes, kinds })
+    let names = names_in(matches)?;
+    Ok(Settings {
+        attributes,
+        kinds,
+        names,
+    })
 }
 
 /// The settings of a session.

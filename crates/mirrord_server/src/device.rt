@@ -53,7 +53,7 @@ pub fn serve_device_by<
 ) -> Result<SessionEnd, Unserved>
     ensures { ServesDeviceBy R.gives W.takes terms workers device.requests device.replies result }
 {
-    let folders = open_folders(rt, root, terms.settings.kinds, workers)?;
+    let folders = open_folders(rt, root, terms.settings, workers)?;
     let seeds = new_seeds(rt)?;
     serve_opened(rt, folders, seeds, terms, device)
 }

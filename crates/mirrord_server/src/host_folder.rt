@@ -12,7 +12,7 @@ use std::marker::Model;
 use std::num::NonZeroUsize;
 use std::random::RandomSource;
 use std::sync::Wait;
-use terms::Kinds;
+use terms::Settings;
 
 /// The folder of Linux that all workers serve, with the files that they share.
 pub(crate) type HostDisk<H> = Linux<LibC, SharedFiles<OpenFd, H>>;
@@ -60,11 +60,11 @@ fn folders_kept(workers: u8) -> usize {
     each.max(1)
 }
 
-/// The folder at `root`, of which these kinds of files are shown.
+/// The folder at `root`, of which the kinds of files and the names of these settings are shown.
 pub(crate) fn open_first<H: Wait + RandomSource + AllocGlobal + Clone + Drop>(
     rt: &H,
     root: &str,
-    kinds: Kinds,
+    settings: Settings,
 ) -> Result<HostDisk<H>, Unserved>
     ensures { IfErr result (λ why. why ≢ NoSocket) }
 {
@@ -73,7 +73,7 @@ pub(crate) fn open_first<H: Wait + RandomSource + AllocGlobal + Clone + Drop>(
     let Ok(own) = rt.clone() else {
         return Err(Unserved::Memory);
     };
-    let Ok(calls) = LibC::new(alloc, kinds) else {
+    let Ok(calls) = LibC::new(alloc, settings) else {
         return Err(Unserved::Memory);
     };
     let Ok(store) = SharedFiles::new(own, alloc, files_kept(), seed) else {

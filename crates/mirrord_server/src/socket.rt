@@ -113,7 +113,7 @@ pub fn serve_socket_by<
     ensures { ServesWorkers terms workers result }
 {
     // The folders are opened before the socket is made, so that a bad folder leaves no file.
-    let folders = open_folders(rt, root, terms.settings.kinds, workers)?;
+    let folders = open_folders(rt, root, terms.settings, workers)?;
     let seeds = new_seeds(rt)?;
     serve_at(rt, folders, seeds, terms, path)
 }

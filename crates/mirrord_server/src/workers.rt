@@ -14,13 +14,14 @@ use std::random::RandomSource;
 use std::sync::Wait;
 use std::thread::Threads;
 use table::Seeds;
-use terms::Kinds;
+use terms::Settings;
 
-/// A folder for each worker, all on the same root, of which these kinds of files are shown.
+/// A folder for each worker, all on the same root, of which the kinds of files and the names of these settings
+/// are shown.
 pub(crate) fn open_folders<H: Wait + RandomSource + AllocGlobal + Clone + Drop>(
     rt: &H,
     root: &str,
-    kinds: Kinds,
+    settings: Settings,
     workers: u8,
 ) -> Result<Vec<HostFolder<H>>, Unserved>
     ensures unused { IfOk result (λ folders. folders.items ≡ replicate workers 0) }
@@ -30,7 +31,7 @@ pub(crate) fn open_folders<H: Wait + RandomSource + AllocGlobal + Clone + Drop>(
     let Ok(mut folders) = Vec::with_capacity(rt.alloc(), usize::from(workers)) else {
         return Err(Unserved::Memory);
     };
-    let first = open_first(rt, root, kinds)?;
+    let first = open_first(rt, root, settings)?;
     for opened in 0..workers {
         folders.push_reserved(open_next(rt, &first, workers)?);
     }

@@ -1,16 +1,14 @@
 -- Sessions whose calls are calls on a known tree.
-use Rattle.std.proofs.Common.{ℕ, ◌++◌, None, inl, inr}
+use Rattle.std.proofs.Common.{ℕ, ◌++◌, inl, inr}
 use Rattle.backing.specs.Calls.{Asked}
 use Rattle.backing.specs.Device.{Counted}
 use Rattle.backing.specs.declared.call.Answer.{Answer}
-use Rattle.disk_folder.specs.Gives.{Claims, Gives as FolderGives}
 use Rattle.engine.specs.Serving.{Gives, Traffic, made_of, turns_of}
 use Rattle.engine.proofs.Runs.{chain_append}
 use Rattle.engine.specs.declared.ends.SessionEnd.{SessionEnd}
 use Rattle.terms.specs.declared.terms.Terms.{Terms}
 use Rattle.engine.specs.Known.{KnownRun}
 use Rattle.engine.proofs.KnownRuns.{known_run}
-use Rattle.mirrord_sessions.specs.Folders.{failures_of, tree_in, ServesOn}
 use Rattle.mirrord_sessions.specs.Known.{KnownCalls, ServesKnown}
 use Rattle.mirrord_sessions.specs.Sessions.{calls_made, IsServed, ServesLink}
 
@@ -25,12 +23,3 @@ pub known_served : {L C : Type 0} (terms : Terms) (link : Traffic L) (calls : Kn
     → (first left : C) (old : L) (over : SessionEnd) (new : L) → ServesLink terms link calls.gives first left old over new → ServesKnown terms link calls first left old over new
 known_served terms link calls knows first left old over new (inl served) = inl (record { served = served; known = known_calls_made terms link calls knows first left old over new served })
 known_served terms link calls knows first left old over new (inr none) = inr none
-
--- a folder of any disk, and what is known of it where the disk is honest
-pub served_on : {L D : Type 0} (disk : Claims D) (terms : Terms) (link : Traffic L) (first left : D × ℕ) (old : L) (over : SessionEnd) (new : L) → ServesLink terms link (FolderGives disk) first left old over new → ServesOn disk terms link first left old over new
-served_on {D = D} disk terms link first left old over new (inl served) =
-    inl (record {
-      served = served;
-      known = λ honest. known_calls_made terms link (record { gives = FolderGives disk; limit = None; tree = tree_in disk; faults = failures_of {D = D} }) (λ old new call answer given. given.known honest) first left old over new served;
-    })
-served_on disk terms link first left old over new (inr none) = inr none

@@ -1,5 +1,6 @@
 pub mod Folders
 pub mod Known
+pub mod Linked
 pub mod Sessions
 pub mod CountingLemmas
 pub mod Ends

@@ -12,6 +12,7 @@ use Rattle.engine.specs.Serving.{events_of, traffic}
 use Rattle.engine.specs.declared.ends.SessionEnd.{SessionEnd}
 use Rattle.engine.specs.declared.ends.SessionEnd.TheVariants as end
 use Rattle.terms.specs.declared.settings.AttributeSource.TheVariants.{Fixed}
+use Rattle.terms.specs.declared.settings.Names.TheVariants as names_of
 use Rattle.terms.specs.declared.settings.Kinds.{Kinds}
 use Rattle.mirrord_sessions.specs.Folders.{ServesFolder}
 use Rattle.mirrord_sessions.specs.Known.{known_calls, IsKnownServed}
@@ -30,7 +31,7 @@ use Rattle.terms.specs.declared.limits.Counts.TheVariants.{Bounded}
 
 -- the owner is user 0 and group 0
 abbrev pub unowned : (kinds : Kinds) → (postings : ℕ) → Terms
-unowned kinds postings = record { settings = record { attributes = Fixed 0 0; kinds = kinds }; bounds = record { nodes = 65536; files = 4096; requests = 64; postings = postings; counts = Bounded } }
+unowned kinds postings = record { settings = record { attributes = Fixed 0 0; kinds = kinds; names = names_of.Text }; bounds = record { nodes = 65536; files = 4096; requests = 64; postings = postings; counts = Bounded } }
 
 -- how often calls of a memory tree have failed
 abbrev pub failed_in : MemTree → ℕ

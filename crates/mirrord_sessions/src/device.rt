@@ -23,7 +23,7 @@ pub fn serve_device<
 >(rt: &H, disks: &P, root: &str, terms: Terms, device: Device<R, W>) -> Result<SessionEnd, Unserved>
     ensures { ServesDevice (claims D.honest D.tree D.has_set D.has_synced) R.gives W.takes terms device.requests device.replies result }
 {
-    let (folder, seeds) = open_seeded(rt, disks, root, terms.settings.kinds)?;
+    let (folder, seeds) = open_seeded(rt, disks, root, terms.settings)?;
     let Device { requests, replies } = device;
     let Ok(mut link) = DeviceLink::new(rt.alloc(), requests, replies) else {
         return Err(Unserved::Memory);

@@ -10,7 +10,7 @@ use disk::{Disk, DiskError, Unknown};
 use errno::ENOMEM;
 use linux_disk::{LibC, Linux, NoFiles, OpenFd, StartError, room_for_open};
 use std::alloc::Global;
-use terms::Kinds;
+use terms::Settings;
 
 /// A system whose folders are served, each as a disk.
 pub trait Disks {
@@ -20,8 +20,8 @@ pub trait Disks {
     /// How many of its files and folders may be kept open.
     fn capacity(&self) -> usize;
 
-    /// The folder at the path, of which these kinds of files are shown.
-    fn open(&self, path: &str, kinds: Kinds) -> Result<Self::Disk, Unserved>
+    /// The folder at the path, of which the kinds of files and the names of these settings are shown.
+    fn open(&self, path: &str, settings: Settings) -> Result<Self::Disk, Unserved>
         ensures { IfErr result (λ why. why ≢ NoSocket) };
 }
 
@@ -47,9 +47,9 @@ impl Disks for LinuxDisks {
     fn open(
         &self,
         path: &str,
-        kinds: Kinds,
+        settings: Settings,
     ) -> Result<Unknown<Linux<LibC, NoFiles<OpenFd>>>, Unserved> {
-        let Ok(calls) = LibC::new(self.alloc, kinds) else {
+        let Ok(calls) = LibC::new(self.alloc, settings) else {
             return Err(Unserved::Memory);
         };
         match Linux::open(calls, NoFiles::new(), self.alloc, path) {

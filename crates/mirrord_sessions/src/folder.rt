@@ -1,7 +1,7 @@
 //! Serving a folder of a disk over a stream.
 
 ghost use Rattle.std.specs.Prelude.{◌≡◌, ◌≢◌, IfErr, IfOk};
-ghost use Rattle.disk_folder.specs.Gives.{claims};
+ghost use Rattle.disk_folder.specs.Gives.{IsNew, claims};
 ghost use Rattle.mirrord_sessions.specs.Folders.{IsFolderServed, ServesFolder};
 ghost use Rattle.mirrord_sessions.specs.declared.folder.Unserved.TheVariants.{NoSeed, NoSocket};
 
@@ -16,7 +16,7 @@ use std::io::{Read, Write};
 use std::random::RandomSource;
 use std::sync::Wait;
 use table::Seeds;
-use terms::{Kinds, Terms};
+use terms::{Settings, Terms};
 use thiserror::Error;
 
 /// Why nothing was served. No contract names these words: what the programs write is a `Failure`, which has the path too.
@@ -76,18 +76,18 @@ pub fn new_seeds<H: RandomSource>(rt: &H) -> Result<Seeds, Unserved>
     }
 }
 
-/// Opens the folder to be served, of which these kinds of files are shown.
+/// Opens the folder to be served, of which the kinds of files and the names of these settings are shown.
 pub fn open_folder<H: RandomSource, D: Disk + Drop, P: Disks<Disk = D>>(
     rt: &H,
     disks: &P,
     root: &str,
-    kinds: Kinds,
+    settings: Settings,
 ) -> Result<Folder<D>, Unserved>
-    ensures new { IfOk result (λ folder. folder.1 ≡ 0) }
+    ensures new { IfOk result IsNew }
     ensures why { IfErr result (λ why. why ≢ NoSocket) }
 {
     let seed = new_seed(rt)?;
-    let disk = disks.open(root, kinds)?;
+    let disk = disks.open(root, settings)?;
     match Folder::new(disk, disks.capacity(), seed) {
         Ok(folder) => Ok(folder),
         Err(error) => Err(not_opened(error)),
@@ -99,12 +99,12 @@ pub(crate) fn open_seeded<H: RandomSource, D: Disk + Drop, P: Disks<Disk = D>>(
     rt: &H,
     disks: &P,
     root: &str,
-    kinds: Kinds,
+    settings: Settings,
 ) -> Result<(Folder<D>, Seeds), Unserved>
-    ensures new { IfOk result (λ opened. opened.0.1 ≡ 0) }
+    ensures new { IfOk result (λ opened. IsNew opened.0) }
     ensures why { IfErr result (λ why. why ≢ NoSocket) }
 {
-    let folder = open_folder(rt, disks, root, kinds)?;
+    let folder = open_folder(rt, disks, root, settings)?;
     let seeds = new_seeds(rt)?;
     Ok((folder, seeds))
 }
@@ -139,7 +139,7 @@ pub fn serve_folder<
 >(rt: &H, disks: &P, root: &str, terms: Terms, input: I, output: O) -> StreamEnd<O>
     ensures { ServesFolder (claims D.honest D.tree D.has_set D.has_synced) terms (I.remaining input) (O.contents output) result.ended (O.contents result.output) }
 {
-    match open_seeded(rt, disks, root, terms.settings.kinds) {
+    match open_seeded(rt, disks, root, terms.settings) {
         Ok((folder, seeds)) => {
             let over = serve_opened(rt, folder, seeds, terms, input, output);
             StreamEnd {

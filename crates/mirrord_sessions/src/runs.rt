@@ -18,7 +18,7 @@ use std::io::{BufRead, Read, Write};
 use std::random::RandomSource;
 use std::sync::Wait;
 use table::Seeds;
-use terms::{AttributeSource, Bounds, Kinds, Settings, Terms};
+use terms::{AttributeSource, Bounds, Kinds, Names, Settings, Terms};
 
 /// A tree in memory, and how it is served.
 #[derive(Clone, Copy, Debug, PartialEq, Eq)]
@@ -39,6 +39,7 @@ fn unowned(kinds: Kinds, postings: u32) -> Terms
         settings: Settings {
             attributes: AttributeSource::Fixed { uid: 0, gid: 0 },
             kinds,
+            names: Names::Text,
         },
         bounds: Bounds {
             postings,

@@ -12,7 +12,7 @@ fn in_root(alloc: Global, name: &str) -> Result<Path, AllocError>
     ensures { IfOk result (λ path. path ≡ name.now ∷ []) }
 {
     let mut names = Vec::new(alloc);
-    names.push(Name::copy_of(alloc, name)?)?;
+    names.push(Name::from_text(alloc, name)?)?;
     Path::from_names(names)
 }
 

@@ -1,7 +1,6 @@
 //! Serving a folder of a disk over a Unix socket with one thread.
 
-ghost use Rattle.std.specs.Prelude.{◌≡◌};
-ghost use Rattle.disk_folder.specs.Gives.{claims};
+ghost use Rattle.disk_folder.specs.Gives.{IsNew, claims};
 ghost use Rattle.mirrord_sessions.specs.Folders.{ServesSocket};
 
 use crate::disks::Disks;
@@ -32,7 +31,7 @@ fn serve_client<H: Wait + AllocGlobal, D: Disk + Drop>(
     terms: Terms,
     stream: &UnixStream,
 ) -> Result<SessionEnd, Unserved>
-    requires { folder.1 ≡ 0 }
+    requires { IsNew folder }
     ensures { ServesSocket (claims D.honest D.tree D.has_set D.has_synced) terms result }
 {
     let Ok(input) = BufReader::with_capacity(rt.alloc(), RECEIVED, Polling::new(stream)) else {
@@ -53,7 +52,7 @@ fn serve_first<H: Wait + AllocGlobal, D: Disk + Drop>(
     terms: Terms,
     place: &SocketFile,
 ) -> Result<SessionEnd, Unserved>
-    requires { folder.1 ≡ 0 }
+    requires { IsNew folder }
     ensures { ServesSocket (claims D.honest D.tree D.has_set D.has_synced) terms result }
 {
     let stream = place.accept()?;
@@ -68,7 +67,7 @@ fn serve_at<H: Wait + Net + Files<File = File> + AllocGlobal, D: Disk + Drop>(
     terms: Terms,
     path: &str,
 ) -> Result<SessionEnd, Unserved>
-    requires { folder.1 ≡ 0 }
+    requires { IsNew folder }
     ensures { ServesSocket (claims D.honest D.tree D.has_set D.has_synced) terms result }
 {
     let place = SocketFile::new(rt, path)?;
@@ -87,6 +86,6 @@ pub fn serve_socket<
     ensures { ServesSocket (claims D.honest D.tree D.has_set D.has_synced) terms result }
 {
     // The folder is opened before the socket is made, so that a bad folder leaves no file.
-    let (folder, seeds) = open_seeded(rt, disks, root, terms.settings.kinds)?;
+    let (folder, seeds) = open_seeded(rt, disks, root, terms.settings)?;
     serve_at(rt, folder, seeds, terms, path)
 }

@@ -10,7 +10,9 @@ use Rattle.ops.specs.declared.findings.FoundFile.{FoundFile}
 use Rattle.ops.specs.declared.findings.ScriptResult.{ScriptResult}
 use Rattle.ops.specs.declared.findings.ScriptResult.TheVariants.{Error, Nothing, NewEntry, NewFile, Attributes, Opening, Bytes, Written, Listed, Looked, Hid, Replaced, Unmoved, Kept}
 use Rattle.ops.specs.declared.hiding.Hiding.{Hiding}
+use Rattle.ops.specs.declared.making.Making.{Making}
 use Rattle.ops.specs.declared.parts.NewParts.{NewParts}
+use Rattle.terms.specs.declared.settings.AttributeSource.TheVariants.{Host}
 use Rattle.ops.specs.declared.setting.Setting.{Setting}
 use Rattle.ops.specs.declared.script.LastCall.{LastCall}
 use Rattle.ops.specs.declared.script.LastCall.TheVariants as ending
@@ -20,7 +22,7 @@ use Rattle.ops.specs.declared.telling.ReplyKind.TheVariants as telling
 use Rattle.wire.specs.declared.request.Operation.{Operation}
 use Rattle.wire.specs.declared.request.Operation.TheVariants as ops
 use Rattle.ops.specs.Looking.{plan_looking}
-use Rattle.ops.specs.Scripts.{Plan, Over, End, failed, hide, list, listed_end, make, move_after, look, open_end, over, read, read_link, remove_closed, replace, set_parts, write}
+use Rattle.ops.specs.Scripts.{Plan, Over, End, failed, give_made, hide, list, listed_end, make, move_after, look, open_end, over, read, read_link, remove_closed, replace, set_parts, shown_at, write}
 
 abbrev pub outcome_of : ScriptResult → Outcome
 outcome_of (Error errno) = Failed
@@ -53,14 +55,14 @@ abbrev pub LooksAtEach : Operation → Type 0
 LooksAtEach (ops.ReadDirPlus fh offset size) = Unit {0}
 LooksAtEach operation = ⊥
 
--- what is reported about what was found
-abbrev pub told_of : ReplyKind → FoundFile → End
-told_of telling.Nothing found = end_of Nothing
-told_of telling.Taken found = end_of (Error EEXIST)
-told_of telling.Entry found = end_of (NewEntry found)
-told_of telling.NewFile found = end_of (NewFile found)
-told_of telling.Attributes found = end_of (Attributes found)
-told_of telling.Opening found = open_end found.kind
+-- what is reported about what was found at a path
+abbrev pub told_of : ReplyKind → Names → FoundFile → End
+told_of telling.Nothing p found = end_of Nothing
+told_of telling.Taken p found = end_of (Error EEXIST)
+told_of telling.Entry p found = end_of (NewEntry found)
+told_of telling.NewFile p found = end_of (NewFile found)
+told_of telling.Attributes p found = end_of (Attributes (shown_at p found))
+told_of telling.Opening p found = open_end found.kind
 
 -- what comes after a file was hidden: nothing more, or a move to its place
 abbrev pub after_hide : Names → (source : Option Names) → ℕ → Plan
@@ -71,10 +73,13 @@ abbrev pub plan_hiding : Hiding → Plan
 plan_hiding h = hide h.path.now h.left.now (after_hide h.path.now (option_map (λ s. s.now) h.source))
 
 abbrev pub plan_setting : Setting → Plan
-plan_setting s = set_parts s.path.now s.parts
+plan_setting s = set_parts s.path.now s.parts (look s.path.now (λ found. Over (told_of s.tells s.path.now found)))
+
+abbrev pub plan_making : Making → Plan
+plan_making m = give_made Host m.caller m.permissions m.path.now (λ found. told_of m.tells m.path.now found)
 
 abbrev pub plan_ending : LastCall → Plan
-plan_ending (ending.Look p tells) = look p.now (λ found. Over (told_of tells found))
+plan_ending (ending.Look p tells) = look p.now (λ found. Over (told_of tells p.now found))
 plan_ending (ending.List p) = list p.now
 plan_ending (ending.Read p offset size) = read p.now offset size
 plan_ending (ending.ReadLink p) = read_link p.now
@@ -83,6 +88,7 @@ plan_ending (ending.Each looks) = plan_looking looks
 plan_ending (ending.Replace s t left) = replace s.now t.now left.now
 plan_ending (ending.Hide hiding) = plan_hiding hiding
 plan_ending (ending.Set setting) = plan_setting setting
+plan_ending (ending.Made making) = plan_making making
 plan_ending (ending.MoveAfter s t candidate) = move_after s.now t.now candidate
 plan_ending (ending.Remove p) = remove_closed p.now
 plan_ending (ending.Over finding) = Over (end_of finding)
@@ -126,7 +132,7 @@ calls_pair None (Some y) = 1
 
 -- and a Stat at the end
 abbrev pub calls_set : NewParts → ℕ
-calls_set parts = calls_part parts.permissions + calls_pair parts.uid parts.gid + calls_part parts.size + calls_pair parts.accessed parts.modified + 1
+calls_set parts = calls_part parts.permissions + calls_pair parts.uid parts.gid + calls_part parts.again + calls_part parts.size + calls_pair parts.accessed parts.modified + 1
 
 abbrev pub calls_ending : LastCall → ℕ
 calls_ending (ending.Look p tells) = 1
@@ -138,6 +144,7 @@ calls_ending (ending.Each looks) = length looks.left
 calls_ending (ending.Replace s t left) = calls_hiding left.now 1 + 1
 calls_ending (ending.Hide hiding) = calls_in hiding
 calls_ending (ending.Set setting) = calls_set setting.parts
+calls_ending (ending.Made making) = 4
 calls_ending (ending.MoveAfter s t candidate) = 1
 calls_ending (ending.Remove p) = 1
 calls_ending (ending.Over finding) = 0

@@ -27,6 +27,7 @@ parts_of valid size new = record {
   permissions = option_map permissions_of (counted valid 0 new.mode);
   uid = counted valid 1 new.uid;
   gid = counted valid 2 new.gid;
+  again = None;
   size = counted valid 3 size;
   accessed = new_time valid 4 7 new.accessed;
   modified = new_time valid 5 8 new.modified;

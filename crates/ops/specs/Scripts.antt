@@ -1,5 +1,6 @@
 -- What each request asks of the directory, and its result.
-use Rattle.std.specs.Prelude.{ℕ, ℤ, ◌≡◌, ◌-◌, length, Bool, true, false, ◌==◌, if◌then◌else◌, is_some, List, [], ◌∷◌, map, Option, Some, None}
+use Rattle.std.specs.Prelude.{ℕ, ℤ, ◌≡◌, ◌-◌, ◌^◌, nat_le, length, Bool, true, false, not, ◌==◌, ◌&&◌, if◌then◌else◌, is_some, List, [], ◌∷◌, map, Option, Some, None, slice_get}
+use Rattle.paths.specs.Hidden.{is_reserved}
 use Rattle.errno.specs.declared.TheConstants.{EBUSY, EEXIST, EINVAL, EIO, EISDIR, ENOENT, ENOTDIR}
 use Rattle.std.specs.Ordering.{int_eq}
 use Rattle.paths.specs.Prefixes.{Names}
@@ -15,11 +16,14 @@ use Rattle.backing.specs.Calls.{Asked, asked, AskStat, AskList, AskMake, AskMake
 use Rattle.table_steps.specs.Answers.{Claim}
 use Rattle.table_steps.specs.declared.data.Outcome.{Outcome}
 use Rattle.table_steps.specs.declared.data.Outcome.TheVariants.{Failed, Done, Entry, Entries, Hidden, HiddenMove}
+use Rattle.wire.specs.declared.request.Caller.{Caller}
 use Rattle.wire.specs.declared.request.Operation.{Operation}
 use Rattle.wire.specs.declared.request.Operation.TheVariants as ops
 use Rattle.ops.specs.declared.findings.FoundFile.{FoundFile}
 use Rattle.ops.specs.declared.findings.ScriptResult.{ScriptResult}
 use Rattle.ops.specs.declared.findings.ScriptResult.TheVariants.{Error, Nothing, NewEntry, NewFile, Attributes, Opening, Bytes, Written, Listed, Looked, Hid, Replaced, Unmoved, Kept}
+use Rattle.terms.specs.declared.settings.AttributeSource.{AttributeSource}
+use Rattle.terms.specs.declared.settings.AttributeSource.TheVariants.{Fixed, Host}
 use Rattle.terms.specs.declared.settings.Settings.{Settings}
 use Rattle.ops.specs.declared.parts.NewParts.{NewParts}
 use Rattle.ops.specs.Parts.{made_with, parts_of}
@@ -110,11 +114,20 @@ at_paths (s ∷ ps) plan = at_candidates ps (λ t candidates. plan s t candidate
 abbrev pub give_entry : Names → Plan
 give_entry p = look p (λ found. over Entry (NewEntry found))
 
-abbrev pub tell_attributes : Names → Plan
-tell_attributes p = look p (λ found. over Done (Attributes found))
+-- whether a file at the path is hidden: its name is one that the server keeps for itself
+abbrev pub reserved_in : Option (List ℕ) → Bool
+reserved_in None = false
+reserved_in (Some name) = is_reserved name
 
-abbrev pub give_file : Names → Plan
-give_file p = look p (λ found. over Entry (NewFile found))
+abbrev pub is_hidden : Names → Bool
+is_hidden p = reserved_in (slice_get p (length p - 1))
+
+-- what is told of what was found there: a hidden file was removed, so its hidden name is no link that counts
+abbrev pub shown_at : Names → FoundFile → FoundFile
+shown_at p found = if is_hidden p then record found { details = record found.details { links = found.details.links - 1 } } else found
+
+abbrev pub tell_attributes : Names → Plan
+tell_attributes p = look p (λ found. over Done (Attributes (shown_at p found)))
 
 -- only a file is opened
 abbrev pub open_end : Kind → End
@@ -150,9 +163,39 @@ set_times (Some accessed) modified p rest = make (AskSetTimes p (Some accessed) 
 set_times None (Some modified) p rest = make (AskSetTimes p None (Some modified)) rest
 
 -- what is reported about the node afterwards
-abbrev pub set_parts : Names → NewParts → Plan
-set_parts p parts =
-    set_permissions parts.permissions p (set_owner parts.uid parts.gid p (set_size parts.size p (set_times parts.accessed parts.modified p (tell_attributes p))))
+abbrev pub set_parts : Names → NewParts → Plan → Plan
+set_parts p parts rest =
+    set_permissions parts.permissions p (set_owner parts.uid parts.gid p (set_permissions parts.again p (set_size parts.size p (set_times parts.accessed parts.modified p rest))))
+
+-- ---- whose is what was made. With attributes of the host it is the caller's, if the server is user 0, as whom it made
+-- it: then the user is set, and the group, unless it is not 0, since a folder whose set-group-ID bit is set gave its own.
+
+abbrev pub uid_owed : Caller → FoundFile → Option ℕ
+uid_owed caller found = if found.details.uid == 0 && not (caller.uid == 0) then Some caller.uid else None
+
+abbrev pub gid_owed : Caller → FoundFile → Option ℕ
+gid_owed caller found = if found.details.uid == 0 && found.details.gid == 0 && not (caller.gid == 0) then Some caller.gid else None
+
+-- permission bits that a change of the owner clears some of: those with a set-user-ID or set-group-ID bit
+abbrev pub cleared : Option ℕ → Option ℕ
+cleared None = None
+cleared (Some permissions) = if nat_le (2 ^ 10) permissions then Some permissions else None
+
+-- what was made with these permission bits, and found so, is given to a user and a group, if any, and then reported
+abbrev pub give_to : (uid gid : Option ℕ) → (permissions : Option ℕ) → Names → (FoundFile → End) → FoundFile → Plan
+give_to None None permissions p told found = Over (told found)
+give_to uid gid permissions p told found = set_owner uid gid p (set_permissions (cleared permissions) p (look p (λ given. Over (told given))))
+
+-- a Stat of what was made, and its end
+abbrev pub give_made : AttributeSource → Caller → (permissions : Option ℕ) → Names → (FoundFile → End) → Plan
+give_made (Fixed uid gid) caller permissions p told = look p (λ found. Over (told found))
+give_made Host caller permissions p told = look p (λ found. give_to (uid_owed caller found) (gid_owed caller found) permissions p told found)
+
+abbrev pub entry_end : FoundFile → End
+entry_end found = record { outcome = Entry; findings = NewEntry found }
+
+abbrev pub file_end : FoundFile → End
+file_end found = record { outcome = Entry; findings = NewFile found }
 
 -- ---- requests whose footprints have several forms
 
@@ -248,37 +291,37 @@ at_names (folder ∷ ps) = look_at_each ps give_found
 
 -- ---- the table of scripts
 
-abbrev pub plan_of : Settings → Operation → Claim → Plan
-plan_of settings (ops.Lookup name) ticket = at_path ticket.paths (λ p. give_entry p)
-plan_of settings ops.GetAttr ticket = at_path ticket.paths (λ p. tell_attributes p)
-plan_of settings (ops.SetAttr valid fh size attributes) ticket = at_path ticket.paths (λ p. set_parts p (parts_of valid size attributes))
-plan_of settings (ops.MakeDir name mode umask) ticket = at_path ticket.paths (λ p. make (AskMakeDir p (made_with settings.attributes mode umask)) (give_entry p))
-plan_of settings ops.ReadLink ticket = at_path ticket.paths (λ p. read_link p)
-plan_of settings (ops.MakeLink name text) ticket = at_path ticket.paths (λ p. make (AskMakeLink p text.now) (give_entry p))
-plan_of settings (ops.Unlink name) ticket = at_candidates ticket.paths (λ p candidates. unlink ticket.hide p candidates)
-plan_of settings (ops.RemoveDir name) ticket = at_path ticket.paths (λ p. make (AskRemoveDir p) done)
-plan_of settings (ops.Rename name new_parent new_name) ticket = at_paths ticket.paths (λ s t candidates. rename ticket.same ticket.hide s t candidates)
-plan_of settings (ops.Link old_node name) ticket = at_paths ticket.paths (λ s t candidates. make (AskLink s t) (give_entry t))
-plan_of settings (ops.Open flags) ticket = at_path ticket.paths (λ p. open_file p)
-plan_of settings (ops.Read fh offset size) ticket = at_path ticket.paths (λ p. read p offset size)
-plan_of settings (ops.Write fh offset piece) ticket = at_path ticket.paths (λ p. write p offset piece.now)
-plan_of settings (ops.Release fh) ticket = release ticket.last ticket.paths
-plan_of settings (ops.Sync fh) ticket = at_path ticket.paths (λ p. make (AskSync p) done)
-plan_of settings (ops.Create name flags mode umask) ticket = at_path ticket.paths (λ p. make (AskMake p (made_with settings.attributes mode umask)) (give_file p))
-plan_of settings ops.OpenDir ticket = at_path ticket.paths (λ p. list p)
-plan_of settings (ops.ReadDirPlus fh offset size) ticket = at_names ticket.paths
-plan_of settings (ops.Rename2 name new_parent flags new_name) ticket = at_paths ticket.paths (λ s t candidates. rename_by flags ticket.same ticket.hide s t candidates)
+abbrev pub plan_of : Settings → Caller → Operation → Claim → Plan
+plan_of settings caller (ops.Lookup name) ticket = at_path ticket.paths (λ p. give_entry p)
+plan_of settings caller ops.GetAttr ticket = at_path ticket.paths (λ p. tell_attributes p)
+plan_of settings caller (ops.SetAttr valid fh size attributes) ticket = at_path ticket.paths (λ p. set_parts p (parts_of valid size attributes) (tell_attributes p))
+plan_of settings caller (ops.MakeDir name mode umask) ticket = at_path ticket.paths (λ p. make (AskMakeDir p (made_with settings.attributes mode umask)) (give_made settings.attributes caller None p entry_end))
+plan_of settings caller ops.ReadLink ticket = at_path ticket.paths (λ p. read_link p)
+plan_of settings caller (ops.MakeLink name text) ticket = at_path ticket.paths (λ p. make (AskMakeLink p text.now) (give_made settings.attributes caller None p entry_end))
+plan_of settings caller (ops.Unlink name) ticket = at_candidates ticket.paths (λ p candidates. unlink ticket.hide p candidates)
+plan_of settings caller (ops.RemoveDir name) ticket = at_path ticket.paths (λ p. make (AskRemoveDir p) done)
+plan_of settings caller (ops.Rename name new_parent new_name) ticket = at_paths ticket.paths (λ s t candidates. rename ticket.same ticket.hide s t candidates)
+plan_of settings caller (ops.Link old_node name) ticket = at_paths ticket.paths (λ s t candidates. make (AskLink s t) (give_entry t))
+plan_of settings caller (ops.Open flags) ticket = at_path ticket.paths (λ p. open_file p)
+plan_of settings caller (ops.Read fh offset size) ticket = at_path ticket.paths (λ p. read p offset size)
+plan_of settings caller (ops.Write fh offset piece) ticket = at_path ticket.paths (λ p. write p offset piece.now)
+plan_of settings caller (ops.Release fh) ticket = release ticket.last ticket.paths
+plan_of settings caller (ops.Sync fh) ticket = at_path ticket.paths (λ p. make (AskSync p) done)
+plan_of settings caller (ops.Create name flags mode umask) ticket = at_path ticket.paths (λ p. make (AskMake p (made_with settings.attributes mode umask)) (give_made settings.attributes caller (made_with settings.attributes mode umask) p file_end))
+plan_of settings caller ops.OpenDir ticket = at_path ticket.paths (λ p. list p)
+plan_of settings caller (ops.ReadDirPlus fh offset size) ticket = at_names ticket.paths
+plan_of settings caller (ops.Rename2 name new_parent flags new_name) ticket = at_paths ticket.paths (λ s t candidates. rename_by flags ticket.same ticket.hide s t candidates)
 -- The others make no call.
-plan_of settings (ops.Forget n) ticket = failed EIO
-plan_of settings ops.StatFs ticket = failed EIO
-plan_of settings (ops.Init major minor max_readahead flags) ticket = failed EIO
-plan_of settings (ops.Flush fh) ticket = failed EIO
-plan_of settings (ops.ReadDir fh offset size) ticket = failed EIO
-plan_of settings (ops.ReleaseDir fh) ticket = failed EIO
-plan_of settings (ops.SyncDir fh) ticket = failed EIO
-plan_of settings ops.Interrupt ticket = failed EIO
-plan_of settings ops.Destroy ticket = failed EIO
-plan_of settings (ops.BatchForget pairs) ticket = failed EIO
+plan_of settings caller (ops.Forget n) ticket = failed EIO
+plan_of settings caller ops.StatFs ticket = failed EIO
+plan_of settings caller (ops.Init major minor max_readahead flags) ticket = failed EIO
+plan_of settings caller (ops.Flush fh) ticket = failed EIO
+plan_of settings caller (ops.ReadDir fh offset size) ticket = failed EIO
+plan_of settings caller (ops.ReleaseDir fh) ticket = failed EIO
+plan_of settings caller (ops.SyncDir fh) ticket = failed EIO
+plan_of settings caller ops.Interrupt ticket = failed EIO
+plan_of settings caller ops.Destroy ticket = failed EIO
+plan_of settings caller (ops.BatchForget pairs) ticket = failed EIO
 
 -- ---- following a plan
 

@@ -99,7 +99,7 @@ impl Paged {
 fn is_dot(name: &Name) -> bool
     ensures { result ≡ is_dot name.now }
 {
-    let bytes = name.as_str().as_bytes();
+    let bytes = name.as_bytes();
     bytes == b".".as_slice() || bytes == b"..".as_slice()
 }
 
@@ -114,7 +114,7 @@ fn put_entry(
 ) -> Result<(), AllocError>
     ensures { OnOk result (out.new.items ≡ out.old.items ++ plus_bytes (plus_entry settings next child.now found given)) }
 {
-    let name = child.name.as_str();
+    let name = child.name.as_bytes();
     match (found, given) {
         (Some(found), Some(given)) => {
             let entry = entry_of(settings, found, given);

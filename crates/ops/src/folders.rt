@@ -19,7 +19,7 @@ fn put_names(out: &mut Vec<u8>, from: u64, children: &[Child]) -> Result<(), All
     let mut next = from;
     for child in children {
         next += 1;
-        encode_dirent(out, NO_INO, next, child.kind, child.name.as_str())?;
+        encode_dirent(out, NO_INO, next, child.kind, child.name.as_bytes())?;
     }
     Ok(())
 }

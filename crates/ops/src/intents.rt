@@ -184,10 +184,10 @@ fn set_intent<'a>(source: AttributeSource, node: u64, valid: u32, fh: u64) -> In
 /// (own), including both flags at once.
 fn rename_intent<'a>(
     parent: u64,
-    name: &'a str,
+    name: &'a [u8],
     new_parent: u64,
     flags: u32,
-    new_name: &'a str,
+    new_name: &'a [u8],
 ) -> Intent<'a>
     ensures { intent_in result ≡ rename_intent parent name.now new_parent flags new_name.now }
 {

@@ -13,12 +13,14 @@ mod intents;
 mod judging;
 mod links;
 mod looks;
+mod making;
 mod moving;
 mod opening;
 mod parts;
 mod replies;
 mod script;
 mod setting;
+mod starting;
 mod telling;
 mod wanted;
 

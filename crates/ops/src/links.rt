@@ -55,7 +55,7 @@ pub fn refusal_errno(settings: Settings, opcode: u32, fault: WireFault) -> i32
 }
 
 /// SYMLINK. An empty text is ENOENT, and a longer one than a link can have is ENAMETOOLONG, as for symlink(2).
-pub(crate) fn link_intent<'a>(parent: u64, name: &'a str, text: &[u8]) -> Intent<'a>
+pub(crate) fn link_intent<'a>(parent: u64, name: &'a [u8], text: &[u8]) -> Intent<'a>
     ensures { intent_in result ≡ link_intent parent name.now text.now }
 {
     if text.is_empty() {
@@ -68,7 +68,7 @@ pub(crate) fn link_intent<'a>(parent: u64, name: &'a str, text: &[u8]) -> Intent
 }
 
 /// LINK. The root is a folder, which gets no further name: that is EPERM, as for link(2).
-pub(crate) fn hard_link_intent<'a>(number: u64, parent: u64, name: &'a str) -> Intent<'a>
+pub(crate) fn hard_link_intent<'a>(number: u64, parent: u64, name: &'a [u8]) -> Intent<'a>
     ensures { intent_in result ≡ hard_link_intent number parent name.now }
 {
     if number == ROOT {

@@ -38,7 +38,7 @@ pub(crate) fn open_intent<'a>(node: u64, flags: u32) -> Intent<'a>
 }
 
 /// CREATE. Flags without a valid access mode are EINVAL.
-pub(crate) fn create_intent<'a>(parent: u64, name: &'a str, flags: u32) -> Intent<'a>
+pub(crate) fn create_intent<'a>(parent: u64, name: &'a [u8], flags: u32) -> Intent<'a>
     ensures { intent_in result ≡ create_intent parent name.now (access_of flags) }
 {
     match access_of(flags) {

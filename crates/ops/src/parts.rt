@@ -16,6 +16,8 @@ pub struct NewParts {
     pub permissions: Option<u32>,
     pub uid: Option<u32>,
     pub gid: Option<u32>,
+    /// The lowest twelve bits of a mode, set after the owner, which may clear some.
+    pub again: Option<u32>,
     /// In bytes.
     pub size: Option<u64>,
     pub accessed: Option<NewTime>,
@@ -89,6 +91,7 @@ pub(crate) fn parts_of(valid: u32, size: u64, new: NewAttributes) -> NewParts
         permissions: counted(valid, MODE, new.mode).map(permissions_of),
         uid: counted(valid, UID, new.uid),
         gid: counted(valid, GID, new.gid),
+        again: None,
         size: counted(valid, SIZE, size),
         accessed: new_time(valid, ACCESSED, ACCESSED_NOW, new.accessed),
         modified: new_time(valid, MODIFIED, MODIFIED_NOW, new.modified),

@@ -1,27 +1,21 @@
 //! The calls of one request: at most one that changes something, and then at most one whose answer the reply needs, or
 //! one for each name of a page. A move that hides changes two names, one after the other.
 
-ghost use Rattle.std.specs.Prelude.{◌≡◌, ◌<◌, [], IfOk, OnErr};
-ghost use Rattle.ops.specs.Ahead.{calls_left, end_of, plan_ahead, plan_ending, told_of, unless, LooksAtEach};
-ghost use Rattle.ops.specs.Scripts.{after, if_done, look, next_of, plan_of, release, AsksNext, End, Over, Plan};
-ghost use Rattle.terms.specs.declared.settings.Settings.{Settings as Whose};
+ghost use Rattle.std.specs.Prelude.{◌≡◌, ◌<◌};
+ghost use Rattle.ops.specs.Ahead.{calls_left, end_of, plan_ahead, unless};
+ghost use Rattle.ops.specs.Scripts.{after, if_done, next_of, AsksNext, End, Over, Plan};
 
 use crate::findings::ScriptResult;
-use crate::hiding::{Hiding, start_unlink, unhidden};
+use crate::hiding::{Hiding, unhidden};
 use crate::judging::{errno_in, judge};
-use crate::links::start_link;
-use crate::looks::{Looks, end_with_looks};
-use crate::moving::{moved, replace_on, start_rename, start_rename_by};
-use crate::parts::{made_with, parts_of};
+use crate::looks::Looks;
+use crate::making::Making;
+use crate::moving::{moved, replace_on};
 use crate::setting::Setting;
 use crate::telling::{ReplyKind, listed, looked, read, read_link, removed, written};
 use backing::{Answer, Call};
 use errno::EIO;
 use paths::Path;
-use std::alloc::{AllocError, Global};
-use table::Ticket;
-use terms::Settings;
-use wire::Operation;
 
 /// How a script ends.
 #[derive(Drop)]
@@ -63,8 +57,10 @@ pub enum LastCall<'a> {
     /// Finding the first candidate at which nothing exists, moving a file there, and then another to its place, if
     /// there is one.
     Hide(Hiding<'a>),
-    /// Setting one part of the attributes after another, and reporting them all.
+    /// Setting one part of the attributes after another, and reporting what is there then.
     Set(Setting<'a>),
+    /// A Stat of what was made, which is given to the caller and reported.
+    Made(Making<'a>),
     /// Moving the source to the target, after the file there was moved to the candidate with this index.
     MoveAfter {
         from: &'a Path,
@@ -104,112 +100,7 @@ pub(crate) fn refused(answer: &Answer) -> Option<i32>
     }
 }
 
-/// A Stat of the path, whose answer is reported.
-fn look(path: &Path, tells: ReplyKind) -> LastCall<'_>
-    ensures { plan_ending result ≡ look path.now (λ found. Over (told_of tells found)) }
-{
-    LastCall::Look { path, tells }
-}
-
-/// The script of a RELEASE, which removes a hidden file with its last handle.
-fn start_release(ticket: &Ticket) -> Script<'_>
-    ensures { plan_ahead result ≡ release ticket.now.last ticket.now.paths }
-{
-    let ending = match ticket.paths() {
-        [path, ..] if ticket.last() => LastCall::Remove { path },
-        [] if ticket.last() => UNFIT,
-        _ => DONE,
-    };
-    Script {
-        change: None,
-        ending,
-    }
-}
-
-/// The script of a request whose ticket has no path.
-fn without_path<'a>(operation: Operation<'_>, ticket: &'a Ticket) -> Script<'a>
-    requires { ticket.now.paths ≡ [] }
-    ensures { (settings : Whose) → plan_ahead result ≡ plan_of settings operation.entry ticket.now }
-{
-    match operation {
-        Operation::Release { .. } => start_release(ticket),
-        _ => Script {
-            change: None,
-            ending: UNFIT,
-        },
-    }
-}
-
 impl<'a> Script<'a> {
-    /// The script of a request that began with this ticket. Only that of a READDIRPLUS allocates.
-    ///
-    /// If the ticket does not have the paths of the request, or the request has no script, the result is a script that
-    /// ended with EIO (own).
-    pub fn start(
-        alloc: Global,
-        settings: Settings,
-        operation: Operation<'a>,
-        ticket: &'a Ticket,
-    ) -> Result<Script<'a>, AllocError>
-        ensures ok { IfOk result (λ script. plan_ahead script ≡ plan_of settings operation.entry ticket.now) }
-        ensures err { OnErr result (LooksAtEach operation.entry) }
-    {
-        let Some(path) = ticket.paths().first() else {
-            return Ok(without_path(operation, ticket));
-        };
-        let (change, ending) = match operation {
-            Operation::Lookup { .. } => (None, look(path, ReplyKind::Entry)),
-            Operation::GetAttr => (None, look(path, ReplyKind::Attributes)),
-            Operation::SetAttr {
-                valid,
-                size,
-                attributes,
-                ..
-            } => {
-                let parts = parts_of(valid, size, attributes);
-                (None, LastCall::Set(Setting { path, parts }))
-            }
-            Operation::MakeDir { mode, umask, .. } => {
-                let permissions = made_with(settings.attributes, mode, umask);
-                let make = Call::MakeDir { path, permissions };
-                (Some(make), look(path, ReplyKind::Entry))
-            }
-            Operation::MakeLink { text, .. } => {
-                let make = Call::MakeLink { path, text };
-                (Some(make), look(path, ReplyKind::Entry))
-            }
-            Operation::ReadLink => (None, LastCall::ReadLink { path }),
-            Operation::Create { mode, umask, .. } => {
-                let permissions = made_with(settings.attributes, mode, umask);
-                let make = Call::Make { path, permissions };
-                (Some(make), look(path, ReplyKind::NewFile))
-            }
-            Operation::Open { .. } => (None, look(path, ReplyKind::Opening)),
-            Operation::Read { offset, size, .. } => (None, LastCall::Read { path, offset, size }),
-            Operation::Write { offset, data, .. } => (None, LastCall::Write { path, offset, data }),
-            Operation::Sync { .. } => (Some(Call::Sync(path)), DONE),
-            Operation::Release { .. } => return Ok(start_release(ticket)),
-            Operation::OpenDir => (None, LastCall::List { path }),
-            Operation::Unlink { .. } => return Ok(start_unlink(ticket)),
-            Operation::RemoveDir { .. } => (Some(Call::RemoveDir(path)), DONE),
-            Operation::Rename { .. } => return Ok(start_rename(ticket)),
-            Operation::Link { .. } => return Ok(start_link(ticket)),
-            Operation::ReadDirPlus { .. } => (None, end_with_looks(alloc, ticket)?),
-            Operation::Rename2 { flags, .. } => return Ok(start_rename_by(flags, ticket)),
-            Operation::Forget { .. }
-            | Operation::StatFs
-            | Operation::Init { .. }
-            | Operation::Flush { .. }
-            | Operation::ReadDir { .. }
-            | Operation::ReleaseDir { .. }
-            | Operation::SyncDir { .. }
-            | Operation::Interrupt
-            | Operation::Destroy
-            | Operation::BatchForget { .. } => (None, UNFIT),
-        };
-        Ok(Script { change, ending })
-    }
-
     /// The next call, or none if the script is over.
     pub fn next(&self) -> Option<Call<'_>>
         ensures { AsksNext result (next_of (plan_ahead self.now)) }
@@ -233,6 +124,7 @@ impl<'a> Script<'a> {
             (None, LastCall::Replace { from, .. }) => Some(Call::Stat(from)),
             (None, LastCall::Hide(hiding)) => hiding.left.first().map(Call::Stat),
             (None, LastCall::Set(setting)) => Some(setting.next()),
+            (None, LastCall::Made(making)) => Some(Call::Stat(making.path)),
             (None, LastCall::MoveAfter { from, to, .. }) => Some(Call::Rename { from, to }),
             (None, LastCall::Remove { path }) => Some(Call::Remove(path)),
             (None, LastCall::Over(_)) => None,
@@ -256,7 +148,11 @@ impl<'a> Script<'a> {
             return;
         }
         let finding = match &mut self.ending {
-            LastCall::Look { path, tells } => looked(*tells, &judge(Call::Stat(path), answer)),
+            LastCall::Look { path, tells } => looked(
+                *tells,
+                path,
+                &judge(Call::Stat(path), answer),
+            ),
             LastCall::List { path } => listed(judge(Call::List(path), answer)),
             LastCall::Read { path, offset, size } => read(path, *offset, *size, answer),
             LastCall::ReadLink { path } => read_link(path, answer),
@@ -272,6 +168,10 @@ impl<'a> Script<'a> {
             }
             LastCall::Set(setting) => {
                 self.ending = setting.on(answer);
+                return;
+            }
+            LastCall::Made(making) => {
+                self.ending = making.on(answer);
                 return;
             }
             LastCall::MoveAfter {
@@ -301,6 +201,7 @@ impl<'a> Script<'a> {
             | LastCall::Write { .. }
             | LastCall::Replace { .. }
             | LastCall::Set(_)
+            | LastCall::Made(_)
             | LastCall::MoveAfter { .. }
             | LastCall::Remove { .. } => ScriptResult::Error { errno: EIO },
         }

@@ -1,23 +1,27 @@
-//! Setting attributes: one call for each part, and then a Stat.
+//! Setting attributes: one call for each part, and then a Stat, whose answer is reported.
 
-ghost use Rattle.std.specs.Prelude.{◌≡◌, ◌+◌, ◌<◌, IfNone, IfSome};
+ghost use Rattle.std.specs.Prelude.{◌≡◌, ◌+◌, ◌<◌, None, IfNone, IfSome};
 ghost use Rattle.backing.specs.Calls.{asked};
-ghost use Rattle.ops.specs.Ahead.{calls_ending, calls_set, plan_ending, plan_setting};
-ghost use Rattle.ops.specs.Scripts.{after, make, next_of, tell_attributes};
+ghost use Rattle.ops.specs.Ahead.{calls_ending, calls_set, plan_ahead, plan_ending, plan_setting, told_of};
+ghost use Rattle.ops.specs.Parts.{parts_of};
+ghost use Rattle.ops.specs.Scripts.{after, look, make, next_of, set_parts, tell_attributes, Over};
 
 use crate::findings::ScriptResult;
 use crate::judging::judge;
-use crate::parts::NewParts;
-use crate::script::{LastCall, refused};
+use crate::parts::{NewParts, parts_of};
+use crate::script::{LastCall, Script, refused};
 use crate::telling::{ReplyKind, looked};
 use backing::{Answer, Call};
 use paths::Path;
+use wire::NewAttributes;
 
-/// What is still to be set of what is at a path: permission bits first, then the owner, the size, and the times.
+/// What is still to be set of what is at a path: permission bits first, then the owner, permission bits that this
+/// may have cleared, the size, and the times.
 #[derive(Clone, Copy, Drop)]
 pub struct Setting<'a> {
     pub path: &'a Path,
     pub parts: NewParts,
+    pub tells: ReplyKind,
 }
 
 impl<'a> Setting<'a> {
@@ -25,41 +29,111 @@ impl<'a> Setting<'a> {
     fn split(self) -> Option<(Call<'a>, Setting<'a>)>
         ensures some { IfSome result (λ split. plan_setting self.entry ≡ make (asked split.0) (plan_setting split.1)) }
         ensures fewer { IfSome result (λ split. calls_set self.entry.parts ≡ calls_set split.1.parts + 1) }
-        ensures none { IfNone result (plan_setting self.entry ≡ tell_attributes self.entry.path.now) }
+        ensures none { IfNone result (plan_setting self.entry ≡ look self.entry.path.now (λ found. Over (told_of self.entry.tells self.entry.path.now found))) }
         ensures look { IfNone result (calls_set self.entry.parts ≡ 1) }
     {
-        let Setting { path, parts } = self;
-        let mut left = parts;
+        let Setting { path, parts, tells } = self;
         // The mode comes before the owner, so that a change of owner clears the setuid and setgid bits of a file, as in
         // the system. The times come after the size, whose change would set them.
-        let call = if let Some(permissions) = parts.permissions {
-            left.permissions = None;
-            Call::SetPermissions { path, permissions }
-        } else if parts.uid.is_some() || parts.gid.is_some() {
-            left.uid = None;
-            left.gid = None;
+        if let Some(permissions) = parts.permissions {
+            let left = NewParts {
+                permissions: None,
+                ..parts
+            };
+            return Some((
+                Call::SetPermissions { path, permissions },
+                Setting {
+                    path,
+                    parts: left,
+                    tells,
+                },
+            ));
+        }
+        if parts.uid.is_some() || parts.gid.is_some() {
             let NewParts { uid, gid, .. } = parts;
-            Call::SetOwner { path, uid, gid }
-        } else if let Some(size) = parts.size {
-            left.size = None;
-            Call::SetLen { path, size }
-        } else if parts.accessed.is_some() || parts.modified.is_some() {
-            left.accessed = None;
-            left.modified = None;
-            let NewParts {
-                accessed,
-                modified,
-                ..
-            } = parts;
-            Call::SetTimes {
-                path,
-                accessed,
-                modified,
-            }
-        } else {
+            let left = NewParts {
+                uid: None,
+                gid: None,
+                ..parts
+            };
+            return Some((
+                Call::SetOwner { path, uid, gid },
+                Setting {
+                    path,
+                    parts: left,
+                    tells,
+                },
+            ));
+        }
+        if let Some(permissions) = parts.again {
+            let left = NewParts {
+                again: None,
+                ..parts
+            };
+            return Some((
+                Call::SetPermissions { path, permissions },
+                Setting {
+                    path,
+                    parts: left,
+                    tells,
+                },
+            ));
+        }
+        self.split_contents()
+    }
+
+    /// The same where neither permission bits nor an owner are to be set.
+    fn split_contents(self) -> Option<(Call<'a>, Setting<'a>)>
+        requires permissions { self.parts.permissions ≡ None }
+        requires uid { self.parts.uid ≡ None }
+        requires gid { self.parts.gid ≡ None }
+        requires again { self.parts.again ≡ None }
+        ensures some { IfSome result (λ split. plan_setting self.entry ≡ make (asked split.0) (plan_setting split.1)) }
+        ensures fewer { IfSome result (λ split. calls_set self.entry.parts ≡ calls_set split.1.parts + 1) }
+        ensures none { IfNone result (plan_setting self.entry ≡ look self.entry.path.now (λ found. Over (told_of self.entry.tells self.entry.path.now found))) }
+        ensures look { IfNone result (calls_set self.entry.parts ≡ 1) }
+    {
+        let Setting { path, parts, tells } = self;
+        if let Some(size) = parts.size {
+            let left = NewParts {
+                size: None,
+                ..parts
+            };
+            return Some((
+                Call::SetLen { path, size },
+                Setting {
+                    path,
+                    parts: left,
+                    tells,
+                },
+            ));
+        }
+        let NewParts {
+            accessed,
+            modified,
+            ..
+        } = parts;
+        if accessed.is_none() && modified.is_none() {
             return None;
+        }
+        let call = Call::SetTimes {
+            path,
+            accessed,
+            modified,
         };
-        Some((call, Setting { path, parts: left }))
+        let left = NewParts {
+            accessed: None,
+            modified: None,
+            ..parts
+        };
+        Some((
+            call,
+            Setting {
+                path,
+                parts: left,
+                tells,
+            },
+        ))
     }
 
     /// The next call.
@@ -79,11 +153,28 @@ impl<'a> Setting<'a> {
     {
         let Some((call, left)) = self.split() else {
             let answer = judge(Call::Stat(self.path), answer);
-            return LastCall::Over(looked(ReplyKind::Attributes, &answer));
+            return LastCall::Over(looked(self.tells, self.path, &answer));
         };
         match refused(&judge(call, answer)) {
             Some(errno) => LastCall::Over(ScriptResult::Error { errno }),
             None => LastCall::Set(left),
         }
+    }
+}
+
+/// The script of a SETATTR.
+pub(crate) fn start_set_attr<'a>(
+    valid: u32,
+    size: u64,
+    attributes: NewAttributes,
+    path: &'a Path,
+) -> Script<'a>
+    ensures { plan_ahead result ≡ set_parts path.now (parts_of valid size attributes) (tell_attributes path.now) }
+{
+    let parts = parts_of(valid, size, attributes);
+    let tells = ReplyKind::Attributes;
+    Script {
+        change: None,
+        ending: LastCall::Set(Setting { path, parts, tells }),
     }
 }

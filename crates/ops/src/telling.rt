@@ -4,13 +4,14 @@ ghost use Rattle.std.specs.Prelude.{◌≡◌};
 ghost use Rattle.backing.specs.Calls.{AskRead, AskReadLink, AskRemove, AskWrite};
 ghost use Rattle.ops.specs.Ahead.{end_of, told_of};
 ghost use Rattle.ops.specs.Judged.{judged};
-ghost use Rattle.ops.specs.Scripts.{if_found, if_listed, if_read, if_removed, if_written, open_end, Over};
+ghost use Rattle.ops.specs.Scripts.{if_found, if_listed, if_read, if_removed, if_written, is_hidden, open_end, shown_at, Over};
 
 use crate::findings::{FoundFile, ScriptResult};
 use crate::judging::{errno_in, judge};
 use backing::{Answer, Call};
 use errno::{EEXIST, EINVAL, EISDIR};
 use paths::Path;
+use paths::reserved::is_reserved;
 use payload::Kind;
 
 /// What is reported about what is at a path.
@@ -27,6 +28,28 @@ pub enum ReplyKind {
     Opening,
 }
 
+/// Whether a file at the path is hidden.
+fn is_hidden(path: &Path) -> bool
+    ensures { result ≡ is_hidden path.now }
+{
+    match path.names().last() {
+        Some(name) => is_reserved(name.as_bytes()),
+        None => false,
+    }
+}
+
+/// What is reported about what was found at the path: of a hidden file, one link less.
+fn shown_at(path: &Path, found: FoundFile) -> FoundFile
+    ensures { result ≡ shown_at path.now found }
+{
+    if !is_hidden(path) {
+        return found;
+    }
+    let mut details = found.details;
+    details.links = details.links.saturating_sub(1);
+    FoundFile { details, ..found }
+}
+
 /// The result of an OPEN that found this.
 fn opening(kind: Kind) -> ScriptResult
     ensures { end_of result ≡ open_end kind }
@@ -40,35 +63,38 @@ fn opening(kind: Kind) -> ScriptResult
 }
 
 impl ReplyKind {
-    /// The result for what was found.
-    fn of(self, found: FoundFile) -> ScriptResult
-        ensures { end_of result ≡ told_of self found }
+    /// The result for what was found at the path.
+    pub(crate) fn of(self, path: &Path, found: FoundFile) -> ScriptResult
+        ensures { end_of result ≡ told_of self path.now found }
     {
         match self {
             ReplyKind::Nothing => ScriptResult::Nothing,
             ReplyKind::Taken => ScriptResult::Error { errno: EEXIST },
             ReplyKind::Entry => ScriptResult::NewEntry(found),
             ReplyKind::NewFile => ScriptResult::NewFile(found),
-            ReplyKind::Attributes => ScriptResult::Attributes(found),
+            ReplyKind::Attributes => ScriptResult::Attributes(shown_at(path, found)),
             ReplyKind::Opening => opening(found.kind),
         }
     }
 }
 
-/// The result of a Stat.
-pub(crate) fn looked(tells: ReplyKind, answer: &Answer) -> ScriptResult
-    ensures { Over (end_of result) ≡ if_found (λ found. Over (told_of tells found)) answer.now }
+/// The result of a Stat of the path.
+pub(crate) fn looked(tells: ReplyKind, path: &Path, answer: &Answer) -> ScriptResult
+    ensures { Over (end_of result) ≡ if_found (λ found. Over (told_of tells path.now found)) answer.now }
 {
     match answer {
         Answer::Stat {
             kind,
             size,
             details,
-        } => tells.of(FoundFile {
-            kind: *kind,
-            size: *size,
-            details: *details,
-        }),
+        } => {
+            let found = FoundFile {
+                kind: *kind,
+                size: *size,
+                details: *details,
+            };
+            tells.of(path, found)
+        }
         other => ScriptResult::Error {
             errno: errno_in(other),
         },

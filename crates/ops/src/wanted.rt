@@ -18,36 +18,36 @@ pub enum Wanted<'a> {
     /// A name under a parent.
     Name {
         parent: u64,
-        name: &'a str,
+        name: &'a [u8],
     },
     /// A name to be removed, whatever is there.
     Remove {
         parent: u64,
-        name: &'a str,
+        name: &'a [u8],
         /// Whether an open file may be hidden instead.
         may_hide: bool,
     },
     /// A name to be moved to another, whatever is at either.
     Move {
         parent: u64,
-        name: &'a str,
+        name: &'a [u8],
         new_parent: u64,
-        new_name: &'a str,
+        new_name: &'a [u8],
         /// Whether what is at the target is kept.
         keep: bool,
     },
     /// Two names to be exchanged, whatever is at either.
     Exchange {
         parent: u64,
-        name: &'a str,
+        name: &'a [u8],
         new_parent: u64,
-        new_name: &'a str,
+        new_name: &'a [u8],
     },
     /// A further name for a node.
     Link {
         number: u64,
         parent: u64,
-        name: &'a str,
+        name: &'a [u8],
     },
     /// A file to be opened.
     Open {
@@ -62,7 +62,7 @@ pub enum Wanted<'a> {
     /// A file to be created and opened.
     Create {
         parent: u64,
-        name: &'a str,
+        name: &'a [u8],
         access: Access,
     },
 }

@@ -8,7 +8,7 @@ ghost use Rattle.path_cache.specs.Cache.{kept_at, IsAt, value_at, looked_at, cou
 use crate::entries::{
     Entries, Entry, drop_least_used, entry_of, put_back, put_in, set_looked, take_out, use_entry,
 };
-use crate::places::Place;
+use crate::places::{Peeked, Place};
 use lru::LruCache;
 use paths::Name;
 use std::alloc::{AllocError, Global};
@@ -81,6 +81,29 @@ impl<V: Drop> PathCache<V> {
             parent,
             name,
             number,
+        })
+    }
+
+    /// What is kept under the name in the folder there, by one look-up. When it was last used stays as it was.
+    pub fn peek<'a>(&self, place: Place<'_>, name: &'a Name) -> Option<Peeked<'a, '_, V>>
+        ensures some { (up : Names) → IsAt self.now place.entry up → IfSome result (λ found. IsAt self.now found.place (up ++ name.now ∷ [])) }
+        ensures none { (up : Names) → IsAt self.now place.entry up → IfNone result (kept_at self.now (up ++ name.now ∷ []) ≡ None) }
+        ensures value { IfSome result (λ found. value_at self.now found.place ≡ Some found.value.now) }
+        ensures looked { IfSome result (λ found. looked_at self.now found.place ≡ Some found.looked) }
+    {
+        let parent = place.number();
+        let Some(entry) = entry_of(&self.entries, parent, name) else {
+            return None;
+        };
+        let place = Place::Child {
+            parent,
+            name,
+            number: entry.number,
+        };
+        Some(Peeked {
+            place,
+            value: &entry.value,
+            looked: entry.looked,
         })
     }
 

@@ -12,4 +12,4 @@ pub use cache::PathCache;
 pub use entries::Entry;
 #[doc(hidden)]
 pub use keys::Key;
-pub use places::Place;
+pub use places::{Peeked, Place};

@@ -29,3 +29,12 @@ impl<'a> Place<'a> {
         }
     }
 }
+
+/// What one look-up has found under a name.
+#[derive(Clone, Copy)]
+pub struct Peeked<'a, 'b, V> {
+    pub place: Place<'a>,
+    pub value: &'b V,
+    /// When it was last seen to stand there, in milliseconds as the caller gave it.
+    pub looked: u64,
+}

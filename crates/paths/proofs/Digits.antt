@@ -1,5 +1,5 @@
 -- Numbers as their last digits in base 16.
-use Rattle.std.proofs.Common.{IsUtf8, ℕ, zero, suc, ◌+◌, ◌-◌, ◌*◌, ◌/◌, ◌%◌, ◌^◌, ◌<◌, ◌≤◌, ◌≡◌, ◌≢◌, All, List, [], ◌∷◌, ◌++◌, length, refl, sym, ap, ◌∙◌, arith, inl, inr}
+use Rattle.std.proofs.Common.{ℕ, zero, suc, ◌+◌, ◌-◌, ◌*◌, ◌/◌, ◌%◌, ◌^◌, ◌<◌, ◌≤◌, ◌≡◌, ◌≢◌, All, List, [], ◌∷◌, ◌++◌, length, refl, sym, ap, ◌∙◌, arith, inl, inr}
 use Rattle.std.specs.Prelude.{codes}
 use Rattle.std.proofs.Math.Nat.{mul_assoc, pow-suc}
 use Rattle.std.proofs.lemmas.Bool.{cases_lt, cond-true, cond-false, lt-ltb, le-ltb}
@@ -119,10 +119,6 @@ modulo n =
 pub eight : (n : ℕ) → hex_digits 8 n ≡ hex_digit (n / 16 / 16 / 16 / 16 / 16 / 16 / 16 % 16) ∷ hex_digit (n / 16 / 16 / 16 / 16 / 16 / 16 % 16) ∷ hex_digit (n / 16 / 16 / 16 / 16 / 16 % 16) ∷ hex_digit (n / 16 / 16 / 16 / 16 % 16) ∷ hex_digit (n / 16 / 16 / 16 % 16) ∷ hex_digit (n / 16 / 16 % 16) ∷ hex_digit (n / 16 % 16) ∷ hex_digit (n % 16) ∷ []
 unfolding hex_digits
 eight n = refl
-
--- digits are UTF-8
-pub text_of_digits : (k n : ℕ) → IsUtf8 (hex_digits k n)
-text_of_digits k n = IsUtf8-from_ascii (hex_digits k n) (IsAscii-from_all (hex_digits k n) (all_digits (λ b. b < 128) ascii_digit k n))
 
 module _ (P : ℕ → Type 0) (start : All P (codes ".fuse_hidden")) (holds : (d : ℕ) → d < 16 → P (hex_digit d)) where
   all_of_it : (number counter : ℕ) → All P (hidden_name number counter)

@@ -1,25 +1,30 @@
 //! The names that the server keeps for itself. An open file gets one of them when its own name is removed.
 
-ghost use Rattle.std.specs.Prelude.{◌≡◌, ◌<◌, ◌++◌, IfOk, OnOk, string_bytes};
+ghost use Rattle.std.specs.Prelude.{◌≡◌, ◌<◌, ◌≤◌, ◌+◌, ◌++◌, IfOk, length};
+ghost use Rattle.arrayvec.specs.ArrayVec.{array_vec_len};
 ghost use Rattle.paths.specs.Hidden.{AreApart, AreModulo, IsLawfulName, candidate, hex_digit, hex_digits, hidden_name, is_reserved};
 
 use crate::Name;
+use arrayvec::ArrayVec;
 use std::alloc::{AllocError, Global};
 
 /// How each of these names begins.
-pub const RESERVED: &str = ".fuse_hidden";
+const RESERVED: &[u8] = b".fuse_hidden";
 
 /// How many bytes each of them has.
 const LENGTH: usize = 28;
+
+/// The bytes of such a name.
+type Hidden = ArrayVec<u8, LENGTH>;
 
 /// How many digits the number and the counter have, each.
 const DIGITS: usize = 8;
 
 /// Whether the server keeps the name for itself.
-pub fn is_reserved(name: &str) -> bool
+pub fn is_reserved(name: &[u8]) -> bool
     ensures { result ≡ is_reserved name.now }
 {
-    name.as_bytes().starts_with(RESERVED.as_bytes())
+    name.starts_with(RESERVED)
 }
 
 /// The name under which a file of node `number` stays: `.fuse_hidden`, then eight lower-case hexadecimal digits each
@@ -28,11 +33,11 @@ pub fn hidden_name(alloc: Global, number: u64, counter: u32) -> Result<Name, All
     ensures name { IfOk result (λ n. n ≡ hidden_name number counter) }
     ensures lawful { IfOk result (λ n. IsLawfulName n) }
 {
-    let mut text = String::with_capacity(alloc, LENGTH)?;
-    text.push_str(RESERVED)?;
-    push_digits(&mut text, number)?;
-    push_digits(&mut text, u64::from(counter))?;
-    let name = Name::new(text)?;
+    let mut bytes = Hidden::new();
+    append(&mut bytes, RESERVED);
+    append(&mut bytes, &digits_of(number));
+    append(&mut bytes, &digits_of(u64::from(counter)));
+    let name = Name::copy_of(alloc, bytes.as_slice())?;
     Ok(name)
 }
 
@@ -66,13 +71,15 @@ fn digits_of(number: u64) -> [u8; DIGITS]
     ]
 }
 
-/// Appends the last eight digits of the number in base 16.
-fn push_digits(text: &mut String, number: u64) -> Result<(), AllocError>
-    ensures { OnOk result (string_bytes text.new ≡ string_bytes text.old ++ hex_digits 8 number) }
+/// Appends these bytes.
+fn append(bytes: &mut Hidden, more: &[u8])
+    requires { array_vec_len bytes.old + length more.now ≤ LENGTH }
+    ensures items { bytes.new.items ≡ bytes.old.items ++ more.now }
+    ensures len { array_vec_len bytes.new ≡ array_vec_len bytes.old + length more.now }
 {
-    let digits = digits_of(number);
-    // SAFETY: the digits are ASCII, and the prover shows that they are UTF-8.
-    text.push_str(unsafe { std::str::from_utf8_unchecked(&digits) })
+    let Ok(()) = bytes.try_extend_from_slice(more) else {
+        unreachable!()
+    };
 }
 
 /// The lower-case hexadecimal digit of that value, which is ASCII.

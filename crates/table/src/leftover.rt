@@ -17,7 +17,7 @@ fn is_hidden(node: &Node) -> bool
     ensures { IsTrue result ↔ IsHidden node.now }
 {
     match &node.place {
-        Place::Named(key) => node.hidden && is_reserved(key.name.as_str()),
+        Place::Named(key) => node.hidden && is_reserved(key.name.as_bytes()),
         Place::Root | Place::Cut => false,
     }
 }

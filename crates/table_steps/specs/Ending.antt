@@ -7,6 +7,9 @@ use Rattle.table_requests.specs.declared.data.RequestInFlight.{RequestInFlight a
 use Rattle.table_requests.specs.declared.data.Given.{Given}
 use Rattle.table_requests.specs.declared.data.Promise.{Promise}
 use Rattle.table_requests.specs.declared.data.Stage.TheVariants as recorded
+use Rattle.table_requests.specs.declared.data.Handle.{Handle}
+use Rattle.table_requests.specs.declared.data.Want.{Want}
+use Rattle.table_requests.specs.declared.data.Want.TheVariants as wants
 use Rattle.table_requests.specs.declared.data.Work.{Work as RecordedWork}
 use Rattle.table_requests.specs.Listed.{requests_of}
 use Rattle.table_requests.specs.RequestMaps.{Notes, is_working, most_posted}
@@ -39,6 +42,10 @@ use Rattle.table_steps.specs.Steps.{Alters, EntersAll, HoldsUp, HasExclusiveHold
 use Rattle.table_steps.specs.World.{RequestInFlight, IsReady, World, with_entry}
 
 -- ---- the acts of a footprint
+
+-- the want of a node alone
+abbrev pub IsNodeWant : Want → Type 0
+IsNodeWant want = (number : ℕ) × (handle : Option Handle) × (want ≡ wants.Node number handle)
 
 abbrev pub keys_in : EnteredNames → List Key
 keys_in Nothing = []

@@ -1,8 +1,9 @@
 //! What a want asks for when its request begins: a match over wants for each part of its footprint that the begin needs.
 
-ghost use Rattle.std.specs.Prelude.{ℕ, ◌≡◌};
+ghost use Rattle.std.specs.Prelude.{ℕ, ◌≡◌, true};
 ghost use Rattle.table_footprints.specs.Footprints.{AtName, are_same, closed_change, is_same, footprint_of};
 ghost use Rattle.table_steps.specs.Beginning.{used_in};
+ghost use Rattle.table_steps.specs.Ending.{IsNodeWant};
 ghost use Rattle.table_steps.specs.Steps.{is_cut, is_last};
 
 use paths::Name;
@@ -37,6 +38,24 @@ pub(crate) fn is_same(want: &Want) -> bool
         Want::Node { .. }
         | Want::Name { .. }
         | Want::Remove { .. }
+        | Want::Page { .. }
+        | Want::Open { .. }
+        | Want::Create { .. }
+        | Want::Release { .. }
+        | Want::Link { .. } => false,
+    }
+}
+
+/// Whether the want is that of a node alone, for which the end of the work gives, changes and opens nothing.
+pub(crate) fn is_node(want: &Want) -> bool
+    ensures { result ≡ true → IsNodeWant want.now }
+{
+    match want {
+        Want::Node { .. } => true,
+        Want::Name { .. }
+        | Want::Remove { .. }
+        | Want::Move { .. }
+        | Want::Exchange { .. }
         | Want::Page { .. }
         | Want::Open { .. }
         | Want::Create { .. }

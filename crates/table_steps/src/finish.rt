@@ -8,9 +8,10 @@ ghost use Rattle.table_footprints.specs.NewRequests.{footprint_in};
 ghost use Rattle.table_requests.specs.Listed.{requests_of};
 ghost use Rattle.table_requests.specs.RequestMaps.{most_posted_by};
 
-use crate::acts::{Acts, NameChange, acts_of};
+use crate::acts::{Acts, EnteredNames, NameChange, acts_of};
+use crate::asked::is_node;
 use crate::data::{Answered, Outcome, Ticket};
-use crate::give::give_none;
+use crate::give::{FIRST_FOUND, give_none};
 use crate::hiding::{hide, replace};
 use crate::name_changes::{alter, losing};
 use crate::state::State;
@@ -37,8 +38,9 @@ fn with_file(answered: Answered, opened: Option<u64>) -> Answered
 }
 
 impl State {
-    /// Cuts, moves or hides names, with everything below them, and drops what nothing keeps alive any more.
-    fn change(&mut self, change: NameChange)
+    /// Cuts, moves or hides names, with everything below them, and drops what nothing keeps alive any more. The node at
+    /// the first of the names is probably the one that the request pinned for it.
+    fn change(&mut self, id: u64, change: NameChange)
         requires kept { IsKept self.old }
         requires may { MayAlter self.old (change_in change) }
         ensures changes { ChangesNames (world_of self.old) (change_in change) (world_of self.new) }
@@ -48,8 +50,10 @@ impl State {
         if matches!(change, NameChange::Stays) {
             return;
         }
+        // Comparing the name of that node is cheaper than looking the name up in the index, which would hash it.
+        let guess = self.flights.pinned_at(id, FIRST_FOUND);
         let losing = losing(&self.tree, &change);
-        alter(&mut self.tree, change);
+        alter(&mut self.tree, change, guess);
         sweep_change(&mut self.tree, &self.flights, &self.files, losing);
     }
 
@@ -70,6 +74,9 @@ impl State {
             promise: _,
             answer,
         } = work;
+        if is_node(&want) {
+            return give_none(id, &EnteredNames::Nothing, answer, None);
+        }
         let Acts {
             entries,
             change,
@@ -79,7 +86,7 @@ impl State {
         match outcome {
             Outcome::Failed => give_none(id, &entries, answer, None),
             Outcome::Done => {
-                self.change(change);
+                self.change(id, change);
                 let opened = self.open_node(id, opens);
                 give_none(id, &entries, answer, opened)
             }
@@ -90,11 +97,11 @@ impl State {
             }
             Outcome::Entries(found) => self.give_entries(id, &held, entries, &found, answer),
             Outcome::Hidden(index) => {
-                self.change(hide(change, candidates, index));
+                self.change(id, hide(change, candidates, index));
                 give_none(id, &entries, answer, None)
             }
             Outcome::HiddenMove { candidate, moved } => {
-                self.change(replace(change, candidates, candidate, moved));
+                self.change(id, replace(change, candidates, candidate, moved));
                 give_none(id, &entries, answer, None)
             }
         }

@@ -23,7 +23,7 @@ use table_requests::{Given, Givens};
 
 /// The index, among a request's pins, of the node that its first name had when it began, if it had one. The node of the
 /// parent comes before it.
-const FIRST_FOUND: usize = 1;
+pub(crate) const FIRST_FOUND: usize = 1;
 
 impl EnteredNames {
     /// How many names there are.

@@ -13,8 +13,8 @@ use crate::keys::Keys;
 use crate::sweep::parent_of_node;
 use tree::{Key, Tree};
 
-/// Cuts what is at the name, with everything below it.
-fn cut_at(tree: &mut Tree, key: &Key)
+/// Cuts what is at the name, with everything below it. It is probably the guessed node.
+fn cut_at(tree: &mut Tree, key: &Key, guess: Option<u64>)
     requires { Leads (at_in tree.old) key.now.parent }
     ensures cuts { Cuts (at_in tree.old) (name_at key.now) (at_in tree.new) }
     ensures children { KeepsChildren (at_in tree.old) (λ n. n ≡ key.now.parent) (at_in tree.new) }
@@ -22,7 +22,7 @@ fn cut_at(tree: &mut Tree, key: &Key)
     ensures rest { tree.new ≡ record tree.old { nodes = tree.new.nodes; next = tree.new.next; newly_cut = tree.new.newly_cut } }
     ensures tree { IsTree (at_in tree.new) }
 {
-    let Some(number) = tree.find(key) else {
+    let Some(number) = tree.find_guessed(key, guess) else {
         return;
     };
     let Ok(()) = tree.cut(number) else {
@@ -47,8 +47,9 @@ fn cut_node(tree: &mut Tree, number: u64)
 }
 
 /// Moves what is at the name to the other, with everything below it, and cuts what was there. If nothing is at the
-/// name, for instance since its parent is cut, then only what is at the other name is cut.
-fn move_at(tree: &mut Tree, key: &Key, target: Keys)
+/// name, for instance since its parent is cut, then only what is at the other name is cut. At the name is probably the
+/// guessed node.
+fn move_at(tree: &mut Tree, key: &Key, target: Keys, guess: Option<u64>)
     requires target_leads { Leads (at_in tree.old) target.key.parent }
     requires may { (e : ℤ) → IsRefusedAt (at_in tree.old) (name_at key.now) (name_at target.key) e → ⊥ }
     ensures moves { Leads (at_in tree.old) key.now.parent → Moves (at_in tree.old) (name_at key.now) (name_at target.key) (at_in tree.new) }
@@ -58,16 +59,16 @@ fn move_at(tree: &mut Tree, key: &Key, target: Keys)
     ensures rest { tree.new ≡ record tree.old { nodes = tree.new.nodes; next = tree.new.next; newly_cut = tree.new.newly_cut } }
     ensures tree { IsTree (at_in tree.new) }
 {
-    match tree.find(key) {
+    match tree.find_guessed(key, guess) {
         Some(number) => tree.relink(number, target.key, target.copy),
         // The directory said that the rename was done, so the node at the target is gone.
-        None => cut_at(tree, &target.key),
+        None => cut_at(tree, &target.key, None),
     }
 }
 
 /// Moves what is at the name to the candidate, with everything below it, and marks it; what was at the candidate is
-/// cut. If nothing is at the name, then only what is at the candidate is cut.
-fn hide_at(tree: &mut Tree, key: &Key, candidate: Keys)
+/// cut. If nothing is at the name, then only what is at the candidate is cut. At the name is probably the guessed node.
+fn hide_at(tree: &mut Tree, key: &Key, candidate: Keys, guess: Option<u64>)
     requires leads { Leads (at_in tree.old) key.now.parent }
     requires candidate_leads { Leads (at_in tree.old) candidate.key.parent }
     requires may { (e : ℤ) → IsRefusedAt (at_in tree.old) (name_at key.now) (name_at candidate.key) e → ⊥ }
@@ -77,16 +78,25 @@ fn hide_at(tree: &mut Tree, key: &Key, candidate: Keys)
     ensures rest { tree.new ≡ record tree.old { nodes = tree.new.nodes; next = tree.new.next; newly_cut = tree.new.newly_cut } }
     ensures tree { IsTree (at_in tree.new) }
 {
-    let found = tree.find(key);
-    move_at(tree, key, candidate);
+    let found = tree.find_guessed(key, guess);
+    // The move then compares the name of that node, and hashes none.
+    move_at(tree, key, candidate, found);
     match found {
         Some(number) => tree.set_hidden(number, true),
         None => {}
     }
 }
 
-/// Hides what is at the target under the candidate, and then, if `moved`, moves what was at the name to the target.
-fn replace_at(tree: &mut Tree, key: &Key, target: Keys, candidate: Keys, moved: bool)
+/// Hides what is at the target under the candidate, and then, if `moved`, moves what was at the name, which is probably
+/// the guessed node, to the target.
+fn replace_at(
+    tree: &mut Tree,
+    key: &Key,
+    target: Keys,
+    candidate: Keys,
+    moved: bool,
+    guess: Option<u64>,
+)
     requires leads { Leads (at_in tree.old) key.now.parent }
     requires target_leads { Leads (at_in tree.old) target.key.parent }
     requires candidate_leads { Leads (at_in tree.old) candidate.key.parent }
@@ -98,9 +108,9 @@ fn replace_at(tree: &mut Tree, key: &Key, target: Keys, candidate: Keys, moved: 
     ensures rest { tree.new ≡ record tree.old { nodes = tree.new.nodes; next = tree.new.next; newly_cut = tree.new.newly_cut } }
     ensures tree { IsTree (at_in tree.new) }
 {
-    hide_at(tree, &target.key, candidate);
+    hide_at(tree, &target.key, candidate, None);
     if moved {
-        move_at(tree, key, target);
+        move_at(tree, key, target, guess);
     }
 }
 
@@ -135,8 +145,9 @@ pub(crate) fn losing(tree: &Tree, change: &NameChange) -> Option<u64>
     }
 }
 
-/// Cuts, moves, hides, replaces or exchanges names, with everything below them.
-pub(crate) fn alter(tree: &mut Tree, change: NameChange)
+/// Cuts, moves, hides, replaces or exchanges names, with everything below them. At the first of the names is probably
+/// the guessed node.
+pub(crate) fn alter(tree: &mut Tree, change: NameChange, guess: Option<u64>)
     requires tree { IsTree (at_in tree.old) }
     requires leads { AreUnder (Leads (at_in tree.old)) (change_in change) }
     requires below { change_in change ≡ cuts (AtNode 1) → ⊥ }
@@ -149,12 +160,12 @@ pub(crate) fn alter(tree: &mut Tree, change: NameChange)
 {
     match change {
         NameChange::Stays => {}
-        NameChange::Cuts(key) => cut_at(tree, &key),
+        NameChange::Cuts(key) => cut_at(tree, &key, guess),
         NameChange::CutsNode(number) => cut_node(tree, number),
-        NameChange::Moves(key, target) => move_at(tree, &key, target),
-        NameChange::Hides(key, candidate) => hide_at(tree, &key, candidate),
+        NameChange::Moves(key, target) => move_at(tree, &key, target, guess),
+        NameChange::Hides(key, candidate) => hide_at(tree, &key, candidate, guess),
         NameChange::Replaces(key, target, candidate, moved) => {
-            replace_at(tree, &key, target, candidate, moved);
+            replace_at(tree, &key, target, candidate, moved, guess);
         }
         NameChange::Exchanges(source, target) => exchange_at(tree, source, target),
     }

@@ -7,5 +7,5 @@ mod settings;
 mod terms;
 
 pub use limits::{Counts, Limits};
-pub use settings::{AttributeSource, Kinds, Settings};
+pub use settings::{AttributeSource, Kinds, Names, Settings};
 pub use terms::{Bounds, Terms};

@@ -3,19 +3,19 @@
 use crate::details::{call_that_sets, mode_told, names_told, octal, owner_told, times_told};
 use crate::texts;
 use backing::{Answer, Call, Calls, Child};
-use paths::{Name, Path};
+use paths::Path;
 use payload::{Kind, Special};
 use std::alloc::{AllocError, Global};
 use std::test::Fail;
 
-/// The path that the text spells: names with `/` between them, and `.` for the root.
+/// The path that the text spells: names with `/` between them, and `.` for the root. Behind `x:` a name has digits for its bytes.
 pub fn path_of(alloc: Global, text: &str) -> Result<Path, AllocError> {
     let mut names = Vec::new(alloc);
     if text == "." {
         return Path::from_names(names);
     }
     for name in text.split('/') {
-        names.push(Name::copy_of(alloc, name)?)?;
+        names.push(texts::name_of(alloc, name)?)?;
     }
     Path::from_names(names)
 }
@@ -233,7 +233,7 @@ fn mark_of(kind: Kind) -> &'static str {
 
 /// A name, with a mark of its kind behind it.
 fn marked(alloc: Global, child: &Child) -> Result<String, AllocError> {
-    let mut text = String::from_str(alloc, child.name.as_str())?;
+    let mut text = texts::name_text(alloc, &child.name)?;
     text.push_str(mark_of(child.kind))?;
     Ok(text)
 }

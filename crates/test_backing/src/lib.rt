@@ -8,6 +8,8 @@ mod asking;
 #[cfg(test)]
 mod attributes;
 #[cfg(test)]
+mod byte_names;
+#[cfg(test)]
 mod costs;
 #[cfg(test)]
 mod deep;

@@ -13,7 +13,7 @@ use std::alloc::{AllocError, Global};
 use std::hash::RandomState;
 use std::rc::Rc;
 use std::test::Fail;
-use terms::Kinds;
+use terms::{AttributeSource, Kinds, Names, Settings};
 
 /// So many files and folders most tests keep open.
 pub const CAPACITY: usize = 64;
@@ -83,6 +83,15 @@ fn error_of(error: StartError) -> DiskError {
     }
 }
 
+/// These kinds are shown, and names of any bytes.
+pub fn showing(kinds: Kinds) -> Settings {
+    Settings {
+        attributes: AttributeSource::Host,
+        kinds,
+        names: Names::Bytes,
+    }
+}
+
 /// The folder of the system at that path, of which these kinds are shown.
 fn system_at(
     alloc: Global,
@@ -90,7 +99,7 @@ fn system_at(
     kinds: Kinds,
     watch: Rc<Watch>,
 ) -> Result<System, DiskError> {
-    let Ok(calls) = LibC::new(alloc, kinds) else {
+    let Ok(calls) = LibC::new(alloc, showing(kinds)) else {
         return Err(DiskError::Failed(ENOMEM));
     };
     match Linux::open(Watched::new(calls, watch), NoFiles::new(), alloc, root) {

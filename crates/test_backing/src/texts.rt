@@ -1,6 +1,8 @@
-//! Texts of links, as words give them.
+//! Texts of links, and names, as words give them.
 
+use paths::Name;
 use std::alloc::{AllocError, Global};
+use std::str;
 
 /// The byte at that place of a text that is filled. None is NUL, and each differs from the ones 4,096 bytes later.
 fn filling(place: u64) -> u8 {
@@ -44,6 +46,29 @@ fn spelt(alloc: Global, text: &str) -> Result<Vec<u8>, AllocError> {
         }
     }
     Ok(bytes)
+}
+
+/// Before the digits of a name that is no text, two for each byte.
+const SPELT: &str = "x:";
+
+/// The name that the word gives.
+pub fn name_of(alloc: Global, word: &str) -> Result<Name, AllocError> {
+    match word.strip_prefix(SPELT) {
+        Some(digits) => Name::copy_of(alloc, &spelt(alloc, digits)?),
+        None => Name::from_text(alloc, word),
+    }
+}
+
+/// The word that gives the name.
+pub fn name_text(alloc: Global, name: &Name) -> Result<String, AllocError> {
+    if let Ok(text) = str::from_utf8(name.as_bytes()) {
+        return String::from_str(alloc, text);
+    }
+    let mut text = String::from_str(alloc, SPELT)?;
+    for byte in name.as_bytes() {
+        text.push_str(format!(in alloc; "{byte:02x}")?.as_str())?;
+    }
+    Ok(text)
 }
 
 /// The text of the link that the call with that name makes: the word itself, the bytes that it spells, or so many.

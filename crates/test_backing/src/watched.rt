@@ -5,7 +5,7 @@ use disk::{Access, Change, DiskError, Stat};
 use linux_disk::{Page, SystemCalls};
 use std::alloc::AllocError;
 use std::rc::Rc;
-use terms::Kinds;
+use terms::{Kinds, Names};
 
 /// That system, watched.
 #[derive(Drop)]
@@ -46,6 +46,8 @@ impl<C: SystemCalls + Drop> SystemCalls for Watched<C> {
 
     ghost kinds = { λ s. C.kinds s.calls };
 
+    ghost names = { λ s. C.names s.calls };
+
     fn share(&self) -> Result<Watched<C>, AllocError> {
         Ok(Watched {
             calls: self.calls.share()?,
@@ -71,6 +73,10 @@ impl<C: SystemCalls + Drop> SystemCalls for Watched<C> {
 
     fn kinds(&self) -> Kinds {
         self.calls.kinds()
+    }
+
+    fn names(&self) -> Names {
+        self.calls.names()
     }
 
     fn milliseconds(&self) -> u64 {

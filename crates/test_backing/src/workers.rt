@@ -1,6 +1,7 @@
 //! Two folders that serve the same one, as two workers do: what one of them moves or removes the other one notices at once.
 
 use crate::asking::{expect, expect_count};
+use crate::opening::showing;
 use crate::random::{Dice, ask_both, call_of};
 use crate::sample_trees::{new_folder, place_of, sample_folder};
 use crate::telling::{Item, put};
@@ -44,7 +45,7 @@ fn open_two<R: Wait + RandomSource + Clone + Drop>(
         return Err(Fail::from("no number"));
     };
     let watch = Rc::new(alloc, watch)?;
-    let calls = Watched::new(LibC::new(alloc, kinds)?, watch.clone()?);
+    let calls = Watched::new(LibC::new(alloc, showing(kinds))?, watch.clone()?);
     let store = SharedFiles::new(rt.clone()?, alloc, room, RandomState::new(rt)?)?;
     let linux = Linux::open(calls, store, alloc, root)?;
     let shared = linux.share()?;

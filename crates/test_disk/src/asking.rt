@@ -1,8 +1,8 @@
 //! A system that is asked by words. What it opens is kept, and named by a number: 0 is the folder itself.
 
 use crate::words::{
-    WORDS, change_of, done_text, error_text, is_link_text, name_of, number, octal, same_text,
-    stat_text, target_text, times_text, words_of,
+    WORDS, change_of, done_text, error_text, is_link_text, name_of, name_text, number, octal,
+    same_text, stat_text, target_text, times_text, words_of,
 };
 use disk::{Access, DiskError, System};
 use paths::Name;
@@ -220,7 +220,7 @@ fn list_text(alloc: Global, told: Result<Vec<Name>, DiskError>) -> Result<String
     };
     let mut texts = Vec::new(alloc);
     for name in &names {
-        texts.push(String::from_str(alloc, name.as_str())?)?;
+        texts.push(name_text(alloc, name)?)?;
     }
     texts.sort()?;
     let mut all = String::from_str(alloc, "names")?;

@@ -2,13 +2,13 @@
 //! `.later` where they are opened first.
 
 use crate::asking::Asked;
-use crate::telling::{Item, Step, fail, new_top, take_all};
+use crate::telling::{Item, Step, fail, new_top, showing, take_all};
 use crate::watched::{Watch, Watched};
 use linux_disk::{LibC, Linux, NoFiles};
 use std::fs;
 use std::sync::Arc;
 use std::test::Fail;
-use terms::Kinds;
+use terms::{Kinds, Names};
 
 /// Takes each step in a new folder, of which files and folders alone are shown.
 fn tell_shut(rt: HostRuntime, name: &str, steps: &[Step]) -> Result<(), Fail> {
@@ -21,7 +21,7 @@ fn tell_shut_of(rt: HostRuntime, name: &str, kinds: Kinds, steps: &[Step]) -> Re
     let top = new_top(&rt, name)?;
     let path = format!(in alloc; "{}/in", top.as_str())?;
     let watch = Arc::new(alloc, Watch::new())?;
-    let calls = Watched::new(LibC::new(alloc, kinds)?, watch);
+    let calls = Watched::new(LibC::new(alloc, showing(kinds, Names::Text))?, watch);
     match Linux::open(calls, NoFiles::new(), alloc, path.as_str()) {
         Ok(linux) => take_all(&rt, top.as_str(), linux, steps)?,
         Err(error) => return Err(Fail::from(("it cannot be opened", error))),

@@ -1,14 +1,14 @@
 //! Calls that a signal ends.
 
 use crate::asking::Asked;
-use crate::telling::{expect, fail, new_top};
+use crate::telling::{expect, fail, new_top, showing};
 use crate::watched::{Watch, Watched};
 use linux_disk::{LibC, Linux, NoFiles};
 use std::fs;
 use std::sync::Arc;
 use std::sync::atomic::Ordering;
 use std::test::Fail;
-use terms::Kinds;
+use terms::{Kinds, Names};
 
 /// How many calls a signal ends, what is asked then, and what it comes to.
 const STEPS: &[(u64, &str, &str)] = &[
@@ -32,7 +32,10 @@ fn what_a_signal_ended_is_done_again(rt: HostRuntime) -> Result<(), Fail> {
     let top = new_top(&rt, "signal")?;
     let path = format!(in alloc; "{}/in", top.as_str())?;
     let watch = Arc::new(alloc, Watch::new())?;
-    let calls = Watched::new(LibC::new(alloc, Kinds::Plain)?, Arc::try_clone(&watch)?);
+    let calls = Watched::new(
+        LibC::new(alloc, showing(Kinds::Plain, Names::Text))?,
+        Arc::try_clone(&watch)?,
+    );
     let linux = match Linux::open(calls, NoFiles::new(), alloc, path.as_str()) {
         Ok(linux) => linux,
         Err(error) => return Err(Fail::from(("it cannot be opened", error))),

@@ -4,6 +4,8 @@
 #[cfg(test)]
 mod asking;
 #[cfg(test)]
+mod byte_names;
+#[cfg(test)]
 mod calls;
 #[cfg(test)]
 mod entered;

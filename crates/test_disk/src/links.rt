@@ -1,8 +1,8 @@
 //! What is neither a file nor a folder, and above all links: no call follows one.
 
-use crate::telling::{Item, Step, open_at, take_all, tell, tell_of};
+use crate::telling::{Item, Step, open_at, showing, take_all, tell, tell_of};
 use std::test::Fail;
-use terms::Kinds;
+use terms::{Kinds, Names};
 
 #[test]
 fn no_call_follows_a_link(rt: HostRuntime) -> Result<(), Fail> {
@@ -119,9 +119,9 @@ fn devices_have_their_numbers(rt: HostRuntime) -> Result<(), Fail> {
         Step::Ask("look 0 zero", "character 261 666"),
     ];
     const NOT_SHOWN: &[Step] = &[Step::Ask("look 0 null", "other")];
-    let all = open_at(&rt, "/dev", Kinds::All)?;
+    let all = open_at(&rt, "/dev", showing(Kinds::All, Names::Text))?;
     take_all(&rt, "/dev", all, SHOWN)?;
-    let plain = open_at(&rt, "/dev", Kinds::Plain)?;
+    let plain = open_at(&rt, "/dev", showing(Kinds::Plain, Names::Text))?;
     take_all(&rt, "/dev", plain, NOT_SHOWN)
 }
 

@@ -1,7 +1,7 @@
 //! Files that several workers share.
 
 use crate::asking::Asked;
-use crate::telling::{expect, fail, new_top};
+use crate::telling::{expect, fail, new_top, showing};
 use crate::watched::{Watch, Watched};
 use linux_disk::{LibC, Linux, OpenFd, SharedFiles};
 use std::alloc::{AllocError, Global};
@@ -16,7 +16,7 @@ use std::test::Fail;
 use std::thread::Threads;
 use std::time::{Clock, Duration};
 use std::{fs, thread};
-use terms::Kinds;
+use terms::{Kinds, Names};
 
 type Served<R> = Linux<Watched<LibC>, SharedFiles<OpenFd, R>>;
 
@@ -30,7 +30,7 @@ fn open_shared<R: Wait + RandomSource + Clone + Drop>(
         return Err(Fail::from("no number"));
     };
     let store = SharedFiles::new(rt.clone()?, alloc, two, RandomState::new(rt)?)?;
-    let calls = Watched::new(LibC::new(alloc, Kinds::Plain)?, watch);
+    let calls = Watched::new(LibC::new(alloc, showing(Kinds::Plain, Names::Text))?, watch);
     match Linux::open(calls, store, alloc, path) {
         Ok(linux) => Ok(linux),
         Err(error) => Err(Fail::from(("it cannot be opened", error))),

@@ -7,7 +7,7 @@ use std::os::unix::fs::{MetadataExt, PermissionsExt, symlink};
 use std::os::unix::net::UnixListener;
 use std::test::Fail;
 use std::{env, fs, io, process};
-use terms::Kinds;
+use terms::{AttributeSource, Kinds, Names, Settings};
 
 /// What others put at a place.
 #[derive(Clone, Copy)]
@@ -167,13 +167,22 @@ pub fn take_all<S: System + Drop>(
     Ok(())
 }
 
-/// The folder at that path, of which these kinds are shown.
+/// These kinds are shown, and these names.
+pub fn showing(kinds: Kinds, names: Names) -> Settings {
+    Settings {
+        attributes: AttributeSource::Host,
+        kinds,
+        names,
+    }
+}
+
+/// The folder at that path, of which this is shown.
 pub fn open_at(
     rt: &HostRuntime,
     path: &str,
-    kinds: Kinds,
+    settings: Settings,
 ) -> Result<Linux<LibC, NoFiles<OpenFd>>, Fail> {
-    let calls = LibC::new(rt.alloc(), kinds)?;
+    let calls = LibC::new(rt.alloc(), settings)?;
     match Linux::open(calls, NoFiles::new(), rt.alloc(), path) {
         Ok(linux) => Ok(linux),
         Err(error) => Err(Fail::from(("it cannot be opened", error))),
@@ -190,7 +199,7 @@ pub fn tell_of(rt: HostRuntime, name: &str, kinds: Kinds, steps: &[Step]) -> Res
     let top = new_top(&rt, name)?;
     let before = outside(&rt, top.as_str())?;
     let path = format!(in rt.alloc(); "{}/in", top.as_str())?;
-    let linux = open_at(&rt, path.as_str(), kinds)?;
+    let linux = open_at(&rt, path.as_str(), showing(kinds, Names::Text))?;
     take_all(&rt, top.as_str(), linux, steps)?;
     let after = outside(&rt, top.as_str())?;
     if after.as_str() != before.as_str() {

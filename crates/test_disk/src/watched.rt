@@ -5,7 +5,7 @@ use linux_disk::{Page, SystemCalls};
 use std::alloc::AllocError;
 use std::sync::Arc;
 use std::sync::atomic::{AtomicU64, Ordering};
-use terms::Kinds;
+use terms::{Kinds, Names};
 
 /// EINTR.
 const INTERRUPTED: i32 = 4;
@@ -93,6 +93,8 @@ impl<C: SystemCalls + Drop> SystemCalls for Watched<C> {
 
     ghost kinds = { λ s. C.kinds s.calls };
 
+    ghost names = { λ s. C.names s.calls };
+
     fn share(&self) -> Result<Watched<C>, AllocError> {
         Ok(Watched {
             calls: self.calls.share()?,
@@ -118,6 +120,10 @@ impl<C: SystemCalls + Drop> SystemCalls for Watched<C> {
 
     fn kinds(&self) -> Kinds {
         self.calls.kinds()
+    }
+
+    fn names(&self) -> Names {
+        self.calls.names()
     }
 
     fn milliseconds(&self) -> u64 {

@@ -68,12 +68,47 @@ pub fn change_of(what: &str, first: &str, second: &str) -> Change {
     }
 }
 
+/// Before the digits of a name that is no text, two for each byte.
+const SPELT: &str = "x:";
+
+/// The bytes that the digits spell.
+fn spelt(alloc: Global, digits: &str) -> Result<Vec<u8>, AllocError> {
+    let mut bytes = Vec::new(alloc);
+    let mut high = None;
+    for digit in digits.chars() {
+        let value = (digit.to_digit(16).unwrap_or(0) % 16) as u8;
+        match high {
+            None => high = Some(value),
+            Some(first) => {
+                bytes.push(first % 16 * 16 + value)?;
+                high = None;
+            }
+        }
+    }
+    Ok(bytes)
+}
+
+/// The name as a word: itself, or if it is no text its bytes in digits.
+pub fn name_text(alloc: Global, name: &Name) -> Result<String, AllocError> {
+    if let Ok(text) = str::from_utf8(name.as_bytes()) {
+        return String::from_str(alloc, text);
+    }
+    let mut text = String::from_str(alloc, SPELT)?;
+    for byte in name.as_bytes() {
+        text.push_str(format!(in alloc; "{byte:02x}")?.as_str())?;
+    }
+    Ok(text)
+}
+
 /// The name, if a folder can hold it.
 pub fn name_of(alloc: Global, text: &str) -> Result<Option<Name>, AllocError>
     ensures { IfOk result (λ found. IfSome found (λ name. IsLawfulName name)) }
 {
-    let name = Name::copy_of(alloc, text)?;
-    if is_lawful(name.as_str().as_bytes()) {
+    let name = match text.strip_prefix(SPELT) {
+        Some(digits) => Name::copy_of(alloc, &spelt(alloc, digits)?)?,
+        None => Name::from_text(alloc, text)?,
+    };
+    if is_lawful(name.as_bytes()) {
         Ok(Some(name))
     } else {
         Ok(None)

@@ -6,27 +6,27 @@ use paths::Path;
 /// A call of a tree. All names are in its root.
 #[derive(Clone, Copy, Debug, PartialEq, Eq)]
 pub enum Ask {
-    Stat(&'static str),
+    Stat(&'static [u8]),
     /// Of the root.
     List,
-    MakeDir(&'static str),
+    MakeDir(&'static [u8]),
     /// With that text.
-    MakeLink(&'static str, &'static [u8]),
-    ReadLink(&'static str),
+    MakeLink(&'static [u8], &'static [u8]),
+    ReadLink(&'static [u8]),
     /// From one name to another.
-    Link(&'static str, &'static str),
-    Remove(&'static str),
-    RemoveDir(&'static str),
+    Link(&'static [u8], &'static [u8]),
+    Remove(&'static [u8]),
+    RemoveDir(&'static [u8]),
     /// From one name to another.
-    Rename(&'static str, &'static str),
+    Rename(&'static [u8], &'static [u8]),
     /// At that byte of the file.
-    Write(&'static str, u64, &'static [u8]),
+    Write(&'static [u8], u64, &'static [u8]),
 }
 
 /// Whether the path is that name in the root.
-fn is_at(path: &Path, name: &str) -> bool {
+fn is_at(path: &Path, name: &[u8]) -> bool {
     match path.names() {
-        [only] => only.as_str() == name,
+        [only] => only.as_bytes() == name,
         _ => false,
     }
 }

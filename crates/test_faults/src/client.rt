@@ -13,7 +13,7 @@ use std::random::RandomSource;
 use std::sync::Wait;
 use table::{Counts, Limits, Seeds, Table};
 use table_image::Image;
-use terms::{AttributeSource, Kinds};
+use terms::{AttributeSource, Kinds, Names};
 use test_support::Handles;
 
 /// Sends its frames one after another, and takes all replies except one. In its frames and replies, handles of open
@@ -156,6 +156,7 @@ pub fn serve_on<H: Wait + RandomSource, T: Ledgers>(
     let settings = Settings {
         attributes: AttributeSource::Fixed { uid: 0, gid: 0 },
         kinds,
+        names: Names::Text,
     };
     let session = Session::new(alloc, settings);
     let end = serve(rt, session, client, served, &mut table, &mut share);

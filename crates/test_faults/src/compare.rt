@@ -30,7 +30,7 @@ struct Otherwise {
 /// Whether the table's node is the same as the slow program's.
 fn is_node(node: &Node, slow: &SlowNode, ledger: &[Posting]) -> bool {
     let is_place = match (&node.place, slow.name) {
-        (Place::Named(key), Some(name)) => key.parent == 1 && key.name.as_str() == name,
+        (Place::Named(key), Some(name)) => key.parent == 1 && key.name.as_bytes() == name,
         (Place::Cut, None) => true,
         _ => false,
     };

@@ -10,11 +10,11 @@ use std::alloc::{AllocError, Global};
 use wire::{ReplyBody, encode_plus_dirent};
 
 /// The names in the root, without those that the server reserves for itself.
-fn names_of(alloc: Global, items: &[Item]) -> Result<Vec<&'static str>, AllocError> {
+fn names_of(alloc: Global, items: &[Item]) -> Result<Vec<&'static [u8]>, AllocError> {
     let mut names = Vec::new(alloc);
     for item in items {
         if let Some(name) = item.name {
-            if !name.starts_with(".fuse_hidden") {
+            if !name.starts_with(b".fuse_hidden") {
                 names.push(name)?;
             }
         }
@@ -39,8 +39,8 @@ fn listing_of(alloc: Global, items: &[Item]) -> Result<Vec<Listed>, AllocError> 
 /// A page that begins with `.` and `..`, for which no entry is given.
 fn page_of(alloc: Global) -> Result<Vec<u8>, AllocError> {
     let mut page = Vec::new(alloc);
-    encode_plus_dirent(&mut page, None, 1, Kind::Folder, ".")?;
-    encode_plus_dirent(&mut page, None, 2, Kind::Folder, "..")?;
+    encode_plus_dirent(&mut page, None, 1, Kind::Folder, b".")?;
+    encode_plus_dirent(&mut page, None, 2, Kind::Folder, b"..")?;
     Ok(page)
 }
 

@@ -12,7 +12,7 @@ const LONGEST: u64 = 1_048_576;
 #[derive(Drop)]
 pub struct Item {
     /// None once it has been removed.
-    pub name: Option<&'static str>,
+    pub name: Option<&'static [u8]>,
     pub kind: Kind,
     /// Of a file, or the text of a link.
     pub bytes: Vec<u8>,
@@ -36,17 +36,17 @@ pub enum Told {
 pub fn sample_items(alloc: Global) -> Result<Vec<Item>, AllocError> {
     let mut items = Vec::new(alloc);
     items.push(Item {
-        name: Some("a"),
+        name: Some(b"a"),
         kind: Kind::File,
         bytes: Vec::from_slice(alloc, b"abc")?,
     })?;
     items.push(Item {
-        name: Some("d"),
+        name: Some(b"d"),
         kind: Kind::Folder,
         bytes: Vec::new(alloc),
     })?;
     items.push(Item {
-        name: Some("e"),
+        name: Some(b"e"),
         kind: Kind::File,
         bytes: Vec::new(alloc),
     })?;
@@ -54,7 +54,7 @@ pub fn sample_items(alloc: Global) -> Result<Vec<Item>, AllocError> {
 }
 
 /// What is at the name, or ENOENT.
-pub fn stat(items: &[Item], name: &str) -> Told {
+pub fn stat(items: &[Item], name: &[u8]) -> Told {
     for item in items {
         if item.name == Some(name) {
             let size = item.bytes.len() as u64;
@@ -69,7 +69,7 @@ pub fn stat(items: &[Item], name: &str) -> Told {
 }
 
 /// The text of the link at the name.
-pub fn text_at(alloc: Global, items: &[Item], name: &str) -> Result<Vec<u8>, AllocError> {
+pub fn text_at(alloc: Global, items: &[Item], name: &[u8]) -> Result<Vec<u8>, AllocError> {
     for item in items {
         if item.name == Some(name) {
             return Vec::from_slice(alloc, &item.bytes);
@@ -79,7 +79,7 @@ pub fn text_at(alloc: Global, items: &[Item], name: &str) -> Result<Vec<u8>, All
 }
 
 /// Gives what is at the name another name, or none.
-fn put_name(items: &mut Vec<Item>, name: &str, new: Option<&'static str>) {
+fn put_name(items: &mut Vec<Item>, name: &[u8], new: Option<&'static [u8]>) {
     for item in items.iter_mut() {
         if item.name == Some(name) {
             item.name = new;
@@ -89,7 +89,7 @@ fn put_name(items: &mut Vec<Item>, name: &str, new: Option<&'static str>) {
 
 fn make(
     items: &mut Vec<Item>,
-    name: &'static str,
+    name: &'static [u8],
     kind: Kind,
     bytes: &[u8],
 ) -> Result<Told, AllocError> {
@@ -107,7 +107,7 @@ fn make(
     }
 }
 
-fn remove(items: &mut Vec<Item>, name: &str) -> Told {
+fn remove(items: &mut Vec<Item>, name: &[u8]) -> Told {
     match stat(items, name) {
         Told::Error(errno) => Told::Error(errno),
         Told::Folder => Told::Error(EISDIR),
@@ -118,7 +118,7 @@ fn remove(items: &mut Vec<Item>, name: &str) -> Told {
     }
 }
 
-fn remove_folder(items: &mut Vec<Item>, name: &str) -> Told {
+fn remove_folder(items: &mut Vec<Item>, name: &[u8]) -> Told {
     match stat(items, name) {
         Told::Error(errno) => Told::Error(errno),
         Told::Folder => {
@@ -129,7 +129,7 @@ fn remove_folder(items: &mut Vec<Item>, name: &str) -> Told {
     }
 }
 
-fn rename(items: &mut Vec<Item>, from: &str, to: &'static str) -> Told {
+fn rename(items: &mut Vec<Item>, from: &[u8], to: &'static [u8]) -> Told {
     match (stat(items, from), stat(items, to)) {
         (Told::Error(errno), _) => return Told::Error(errno),
         (_, _) if from == to => return Told::Done,
@@ -160,7 +160,7 @@ fn laid_over(bytes: &Vec<u8>, offset: usize, data: &[u8]) -> Result<Vec<u8>, All
 /// Writes to the file at the name, whatever its length.
 fn put_bytes(
     items: &mut Vec<Item>,
-    name: &str,
+    name: &[u8],
     offset: usize,
     data: &[u8],
 ) -> Result<(), AllocError> {
@@ -172,7 +172,7 @@ fn put_bytes(
     Ok(())
 }
 
-fn write(items: &mut Vec<Item>, name: &str, offset: u64, data: &[u8]) -> Result<Told, AllocError> {
+fn write(items: &mut Vec<Item>, name: &[u8], offset: u64, data: &[u8]) -> Result<Told, AllocError> {
     match stat(items, name) {
         Told::Error(errno) => return Ok(Told::Error(errno)),
         Told::Folder => return Ok(Told::Error(EISDIR)),
@@ -192,7 +192,7 @@ fn write(items: &mut Vec<Item>, name: &str, offset: u64, data: &[u8]) -> Result<
     Ok(Told::Wrote(count))
 }
 
-fn read_link(items: &[Item], name: &str) -> Told {
+fn read_link(items: &[Item], name: &[u8]) -> Told {
     match stat(items, name) {
         Told::Error(errno) => Told::Error(errno),
         Told::Link(_) => Told::Done,
@@ -201,7 +201,7 @@ fn read_link(items: &[Item], name: &str) -> Told {
 }
 
 /// The tree gives nothing a further name.
-fn link(items: &[Item], from: &str, to: &str) -> Told {
+fn link(items: &[Item], from: &[u8], to: &[u8]) -> Told {
     match (stat(items, from), stat(items, to)) {
         (Told::Error(errno), _) => Told::Error(errno),
         (_, Told::Error(_)) => Told::Error(EPERM),

@@ -35,7 +35,7 @@ pub struct Ran {
     pub tree: MemTree,
 }
 
-fn path_of(alloc: Global, name: &str) -> Result<Path, AllocError> {
+fn path_of(alloc: Global, name: &[u8]) -> Result<Path, AllocError> {
     let mut names = Vec::new(alloc);
     names.push(Name::copy_of(alloc, name)?)?;
     Path::from_names(names)
@@ -70,7 +70,7 @@ pub fn tree_of(alloc: Global, plan: &Plan) -> Result<MemTree, AllocError> {
 }
 
 /// What is at the name at the end.
-pub fn what_stands(alloc: Global, tree: &mut MemTree, name: &str) -> Result<Told, AllocError> {
+pub fn what_stands(alloc: Global, tree: &mut MemTree, name: &[u8]) -> Result<Told, AllocError> {
     let path = path_of(alloc, name)?;
     Ok(match tree.call(Call::Stat(&path)) {
         Answer::Stat {
@@ -96,7 +96,7 @@ pub fn what_stands(alloc: Global, tree: &mut MemTree, name: &str) -> Result<Told
 pub fn has_bytes(
     alloc: Global,
     tree: &mut MemTree,
-    name: &str,
+    name: &[u8],
     bytes: &[u8],
 ) -> Result<bool, AllocError> {
     let path = path_of(alloc, name)?;
@@ -115,7 +115,7 @@ pub fn has_bytes(
 pub fn has_text(
     alloc: Global,
     tree: &mut MemTree,
-    name: &str,
+    name: &[u8],
     text: &[u8],
 ) -> Result<bool, AllocError> {
     let path = path_of(alloc, name)?;
@@ -129,7 +129,7 @@ pub fn has_text(
 pub fn count_names(
     alloc: Global,
     tree: &mut MemTree,
-    folder: Option<&str>,
+    folder: Option<&[u8]>,
 ) -> Result<usize, AllocError> {
     let path = match folder {
         Some(name) => path_of(alloc, name)?,

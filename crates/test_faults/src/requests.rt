@@ -12,17 +12,17 @@ use wire::ReplyBody;
 
 /// The names under which the open file of node 2 may be hidden by its first hiding. No run of the session hides another
 /// file, or hides twice.
-const CANDIDATES: [&str; 10] = [
-    ".fuse_hidden0000000200000000",
-    ".fuse_hidden0000000200000001",
-    ".fuse_hidden0000000200000002",
-    ".fuse_hidden0000000200000003",
-    ".fuse_hidden0000000200000004",
-    ".fuse_hidden0000000200000005",
-    ".fuse_hidden0000000200000006",
-    ".fuse_hidden0000000200000007",
-    ".fuse_hidden0000000200000008",
-    ".fuse_hidden0000000200000009",
+const CANDIDATES: [&[u8]; 10] = [
+    b".fuse_hidden0000000200000000",
+    b".fuse_hidden0000000200000001",
+    b".fuse_hidden0000000200000002",
+    b".fuse_hidden0000000200000003",
+    b".fuse_hidden0000000200000004",
+    b".fuse_hidden0000000200000005",
+    b".fuse_hidden0000000200000006",
+    b".fuse_hidden0000000200000007",
+    b".fuse_hidden0000000200000008",
+    b".fuse_hidden0000000200000009",
 ];
 
 impl World {
@@ -37,12 +37,12 @@ impl World {
     }
 
     /// The name of the node, if it has one.
-    fn name_of(&self, number: u64) -> Option<&'static str> {
+    fn name_of(&self, number: u64) -> Option<&'static [u8]> {
         node_of(&self.nodes, number)?.name
     }
 
     /// LOOKUP.
-    pub fn lookup(&mut self, name: &'static str) -> Result<Answer, AllocError> {
+    pub fn lookup(&mut self, name: &'static [u8]) -> Result<Answer, AllocError> {
         let alloc = self.alloc;
         match self.ask(Ask::Stat(name))? {
             Told::Error(errno) => Ok(failed(alloc, errno)),
@@ -54,7 +54,7 @@ impl World {
     }
 
     /// MKDIR.
-    pub fn make_folder(&mut self, name: &'static str) -> Result<Answer, AllocError> {
+    pub fn make_folder(&mut self, name: &'static [u8]) -> Result<Answer, AllocError> {
         match self.ask(Ask::MakeDir(name))? {
             Told::Error(errno) => Ok(failed(self.alloc, errno)),
             _ => self.lookup(name),
@@ -64,7 +64,7 @@ impl World {
     /// SYMLINK. All texts of the session are lawful.
     pub fn make_link(
         &mut self,
-        name: &'static str,
+        name: &'static [u8],
         text: &'static [u8],
     ) -> Result<Answer, AllocError> {
         match self.ask(Ask::MakeLink(name, text))? {
@@ -89,7 +89,7 @@ impl World {
     }
 
     /// LINK. No tree of the session gives a file a further name.
-    pub fn link(&mut self, number: u64, name: &'static str) -> Result<Answer, AllocError> {
+    pub fn link(&mut self, number: u64, name: &'static [u8]) -> Result<Answer, AllocError> {
         let alloc = self.alloc;
         let Some(old) = self.name_of(number) else {
             return Ok(failed(alloc, ESTALE));
@@ -154,7 +154,7 @@ impl World {
     }
 
     /// The first candidate at which nothing is, or the error of a Stat.
-    fn find_candidate(&mut self) -> Result<Result<&'static str, i32>, AllocError> {
+    fn find_candidate(&mut self) -> Result<Result<&'static [u8], i32>, AllocError> {
         for candidate in CANDIDATES {
             match self.ask(Ask::Stat(candidate))? {
                 Told::Error(ENOENT) => return Ok(Ok(candidate)),
@@ -166,7 +166,7 @@ impl World {
     }
 
     /// UNLINK of a name whose node has an open file.
-    fn hide(&mut self, name: &'static str) -> Result<Answer, AllocError> {
+    fn hide(&mut self, name: &'static [u8]) -> Result<Answer, AllocError> {
         let alloc = self.alloc;
         self.counter = self.counter.wrapping_add(10);
         let candidate = match self.find_candidate()? {
@@ -189,7 +189,7 @@ impl World {
     }
 
     /// UNLINK.
-    pub fn unlink(&mut self, name: &'static str) -> Result<Answer, AllocError> {
+    pub fn unlink(&mut self, name: &'static [u8]) -> Result<Answer, AllocError> {
         if self.has_open_file(node_at(&self.nodes, name)) {
             return self.hide(name);
         }
@@ -197,7 +197,7 @@ impl World {
     }
 
     /// RMDIR, and UNLINK of a name whose node has no open file.
-    pub fn remove(&mut self, name: &'static str, ask: Ask) -> Result<Answer, AllocError> {
+    pub fn remove(&mut self, name: &'static [u8], ask: Ask) -> Result<Answer, AllocError> {
         match self.ask(ask)? {
             Told::Error(errno) => return Ok(failed(self.alloc, errno)),
             _ => {}
@@ -207,7 +207,11 @@ impl World {
     }
 
     /// RENAME to a name whose node, if any, has no open file.
-    pub fn rename(&mut self, name: &'static str, new: &'static str) -> Result<Answer, AllocError> {
+    pub fn rename(
+        &mut self,
+        name: &'static [u8],
+        new: &'static [u8],
+    ) -> Result<Answer, AllocError> {
         match self.ask(Ask::Rename(name, new))? {
             Told::Error(errno) => return Ok(failed(self.alloc, errno)),
             _ => {}

@@ -18,7 +18,7 @@ use std::test::Fail;
 use table_image::Image;
 use terms::Kinds;
 use tree::Place;
-use wire::{Request, encode_request};
+use wire::{Caller, Request, encode_request};
 
 /// How many calls of the tree and how many replies the session has.
 const CALLS: usize = 19;
@@ -44,10 +44,10 @@ fn count_right(alloc: Global, ran: &mut Ran) -> Result<usize, AllocError> {
 }
 
 /// Whether the node with that number has that name in the root, and is marked as hidden only if the name is `HIDDEN`.
-fn is_named(image: &Image, number: u64, name: &str) -> bool {
+fn is_named(image: &Image, number: u64, name: &[u8]) -> bool {
     for node in image.nodes.as_slice() {
         if let Place::Named(key) = &node.place {
-            if node.number == number && key.parent == 1 && key.name.as_str() == name {
+            if node.number == number && key.parent == 1 && key.name.as_bytes() == name {
                 return node.hidden == (name == HIDDEN);
             }
         }
@@ -65,6 +65,7 @@ fn frames_of_the_session(rt: HostRuntime) -> Result<(), Fail> {
         let request = Request {
             unique,
             node: *node,
+            caller: Caller { uid: 0, gid: 0 },
             operation: *operation,
         };
         let mut spelled = Vec::new(alloc);
@@ -134,7 +135,7 @@ fn tell_hiding(
 ) -> Result<(bool, bool, bool), AllocError> {
     Ok((
         ran.taken.as_slice() == replies && ran.are_due,
-        is_named(&ran.image, 2, "a"),
+        is_named(&ran.image, 2, b"a"),
         has_bytes(alloc, &mut ran.tree, HIDDEN, b"abcde")?,
     ))
 }

@@ -7,7 +7,7 @@ use ledger::Posting;
 use wire::Operation;
 
 /// The name under which the open file is hidden.
-pub const HIDDEN: &str = ".fuse_hidden0000000200000000";
+pub const HIDDEN: &[u8] = b".fuse_hidden0000000200000000";
 
 /// The requests and their nodes, one after another, numbered from 1.
 pub const REQUESTS: &[(u64, Operation<'static>)] = &[
@@ -20,7 +20,7 @@ pub const REQUESTS: &[(u64, Operation<'static>)] = &[
             flags: 0,
         },
     ),
-    (1, Operation::Lookup { name: "a" }),
+    (1, Operation::Lookup { name: b"a" }),
     (2, Operation::Open { flags: 2 }),
     (
         2,
@@ -30,29 +30,29 @@ pub const REQUESTS: &[(u64, Operation<'static>)] = &[
             data: b"de",
         },
     ),
-    (1, Operation::Unlink { name: "a" }),
-    (1, Operation::Lookup { name: "e" }),
+    (1, Operation::Unlink { name: b"a" }),
+    (1, Operation::Lookup { name: b"e" }),
     (
         1,
         Operation::Rename {
-            name: "e",
+            name: b"e",
             new_parent: 1,
-            new_name: "b",
+            new_name: b"b",
         },
     ),
     (
         1,
         Operation::MakeDir {
-            name: "m",
+            name: b"m",
             mode: 0,
             umask: 0,
         },
     ),
-    (1, Operation::RemoveDir { name: "m" }),
+    (1, Operation::RemoveDir { name: b"m" }),
     (
         1,
         Operation::MakeLink {
-            name: "l",
+            name: b"l",
             text: b"a/b",
         },
     ),
@@ -70,7 +70,7 @@ pub const REQUESTS: &[(u64, Operation<'static>)] = &[
         1,
         Operation::Link {
             old_node: 3,
-            name: "h",
+            name: b"h",
         },
     ),
     (2, Operation::Release { fh: 1 }),
@@ -80,24 +80,24 @@ pub const REQUESTS: &[(u64, Operation<'static>)] = &[
 
 /// The calls of the tree if nothing fails, in order.
 pub const ASKS: &[Ask] = &[
-    Ask::Stat("a"),
-    Ask::Stat("a"),
-    Ask::Write("a", 3, b"de"),
+    Ask::Stat(b"a"),
+    Ask::Stat(b"a"),
+    Ask::Write(b"a", 3, b"de"),
     Ask::Stat(HIDDEN),
-    Ask::Rename("a", HIDDEN),
-    Ask::Stat("e"),
-    Ask::Rename("e", "b"),
-    Ask::MakeDir("m"),
-    Ask::Stat("m"),
-    Ask::RemoveDir("m"),
-    Ask::MakeLink("l", b"a/b"),
-    Ask::Stat("l"),
-    Ask::ReadLink("l"),
+    Ask::Rename(b"a", HIDDEN),
+    Ask::Stat(b"e"),
+    Ask::Rename(b"e", b"b"),
+    Ask::MakeDir(b"m"),
+    Ask::Stat(b"m"),
+    Ask::RemoveDir(b"m"),
+    Ask::MakeLink(b"l", b"a/b"),
+    Ask::Stat(b"l"),
+    Ask::ReadLink(b"l"),
     Ask::List,
-    Ask::Stat("b"),
-    Ask::Stat("d"),
-    Ask::Stat("l"),
-    Ask::Link("b", "h"),
+    Ask::Stat(b"b"),
+    Ask::Stat(b"d"),
+    Ask::Stat(b"l"),
+    Ask::Link(b"b", b"h"),
     Ask::Remove(HIDDEN),
 ];
 
@@ -154,13 +154,13 @@ pub const LEDGER: &[Posting] = &[
 ];
 
 /// What is at names of the root at the end if nothing fails.
-pub const STANDS: &[(&str, Told)] = &[
-    ("a", Told::Error(2)),
-    ("b", Told::File(0)),
-    ("d", Told::Folder),
-    ("l", Told::Link(3)),
-    ("e", Told::Error(2)),
-    ("h", Told::Error(2)),
-    ("m", Told::Error(2)),
+pub const STANDS: &[(&[u8], Told)] = &[
+    (b"a", Told::Error(2)),
+    (b"b", Told::File(0)),
+    (b"d", Told::Folder),
+    (b"l", Told::Link(3)),
+    (b"e", Told::Error(2)),
+    (b"h", Told::Error(2)),
+    (b"m", Told::Error(2)),
     (HIDDEN, Told::Error(2)),
 ];

@@ -15,14 +15,14 @@ pub struct SlowNode {
     pub number: u64,
     pub generation: u64,
     /// In the root; `None` for a node that was cut.
-    pub name: Option<&'static str>,
+    pub name: Option<&'static [u8]>,
     pub is_hidden: bool,
 }
 
 /// A name in a folder that was opened. `.` and `..` are not among them.
 #[derive(Clone, Copy, Debug, PartialEq, Eq)]
 pub struct Listed {
-    pub name: &'static str,
+    pub name: &'static [u8],
     pub kind: Kind,
 }
 
@@ -105,7 +105,7 @@ pub fn node_of(nodes: &[SlowNode], number: u64) -> Option<SlowNode> {
 }
 
 /// The node at the name.
-pub fn node_at(nodes: &[SlowNode], name: &str) -> Option<SlowNode> {
+pub fn node_at(nodes: &[SlowNode], name: &[u8]) -> Option<SlowNode> {
     for node in nodes {
         if node.name == Some(name) {
             return Some(*node);
@@ -179,7 +179,7 @@ impl World {
     }
 
     /// Gives an entry of the node at the name. If there is none, it is born.
-    pub fn enter(&mut self, name: &'static str) -> Result<SlowNode, AllocError> {
+    pub fn enter(&mut self, name: &'static [u8]) -> Result<SlowNode, AllocError> {
         let node = match node_at(&self.nodes, name) {
             Some(node) => node,
             None => {
@@ -204,7 +204,7 @@ impl World {
     }
 
     /// Gives the node at the name, if there is one, another place, and a hidden mark or none.
-    pub fn place(&mut self, name: &str, new: Option<&'static str>, is_hidden: bool) {
+    pub fn place(&mut self, name: &[u8], new: Option<&'static [u8]>, is_hidden: bool) {
         for node in self.nodes.iter_mut() {
             if node.name == Some(name) {
                 node.name = new;

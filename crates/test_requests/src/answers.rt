@@ -65,7 +65,7 @@ fn names_of(alloc: Global, from: u64, names: &[(&str, Stands)]) -> Result<ReplyB
     let mut next = from;
     for (name, stands) in names {
         next = next.saturating_add(1);
-        encode_dirent(&mut bytes, NO_INO, next, kind_of(*stands), name)?;
+        encode_dirent(&mut bytes, NO_INO, next, kind_of(*stands), name.as_bytes())?;
     }
     Ok(ReplyBody::Data(Payload::new(bytes)))
 }
@@ -85,7 +85,7 @@ fn entries_of(
         } else {
             Some(entry_of(settings, *node, *stands))
         };
-        encode_plus_dirent(&mut bytes, entry, next, kind_of(*stands), name)?;
+        encode_plus_dirent(&mut bytes, entry, next, kind_of(*stands), name.as_bytes())?;
     }
     Ok(ReplyBody::Data(Payload::new(bytes)))
 }

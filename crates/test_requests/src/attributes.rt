@@ -15,9 +15,9 @@ const ATTRIBUTES: &[Story] = &[
         says: "attributes of the root, a file and a folder",
         asks: &[
             (1, GetAttr),
-            (1, Lookup { name: "a" }),
+            (1, Lookup { name: b"a" }),
             (2, GetAttr),
-            (1, Lookup { name: "d" }),
+            (1, Lookup { name: b"d" }),
             (3, GetAttr),
         ],
         replies: &[
@@ -38,7 +38,7 @@ const ATTRIBUTES: &[Story] = &[
     },
     Story {
         says: "statistics of any node, without a call",
-        asks: &[(1, StatFs), (99, StatFs), (1, Lookup { name: "zz" })],
+        asks: &[(1, StatFs), (99, StatFs), (1, Lookup { name: b"zz" })],
         faults: &[(1, Before(EACCES))],
         replies: &[Sizes, Sizes, Failed(EACCES)],
         ..NOTHING
@@ -55,7 +55,7 @@ const SIZES: &[Story] = &[
     Story {
         says: "a size of 600 bytes, with a lock owner too, and no field at all",
         asks: &[
-            (1, Lookup { name: "a" }),
+            (1, Lookup { name: b"a" }),
             (
                 2,
                 SetAttr {
@@ -96,7 +96,7 @@ const SIZES: &[Story] = &[
     Story {
         says: "other fields, and a handle that is not open",
         asks: &[
-            (1, Lookup { name: "a" }),
+            (1, Lookup { name: b"a" }),
             (
                 2,
                 SetAttr {
@@ -147,7 +147,7 @@ const SIZES: &[Story] = &[
     Story {
         says: "a folder, and too long a file",
         asks: &[
-            (1, Lookup { name: "d" }),
+            (1, Lookup { name: b"d" }),
             (
                 2,
                 SetAttr {
@@ -157,7 +157,7 @@ const SIZES: &[Story] = &[
                     attributes: NOTHING_NEW,
                 },
             ),
-            (1, Lookup { name: "a" }),
+            (1, Lookup { name: b"a" }),
             (
                 3,
                 SetAttr {
@@ -180,7 +180,7 @@ const SIZES: &[Story] = &[
     Story {
         says: "the size fails",
         asks: &[
-            (1, Lookup { name: "a" }),
+            (1, Lookup { name: b"a" }),
             (
                 2,
                 SetAttr {
@@ -199,7 +199,7 @@ const SIZES: &[Story] = &[
     Story {
         says: "the size is set, and what stands there is not told",
         asks: &[
-            (1, Lookup { name: "a" }),
+            (1, Lookup { name: b"a" }),
             (
                 2,
                 SetAttr {
@@ -227,12 +227,12 @@ const NODE_LIMIT: &[Story] = &[Story {
     says: "two nodes",
     nodes: 2,
     asks: &[
-        (1, Lookup { name: "a" }),
-        (1, Lookup { name: "e" }),
-        (1, Lookup { name: "zz" }),
+        (1, Lookup { name: b"a" }),
+        (1, Lookup { name: b"e" }),
+        (1, Lookup { name: b"zz" }),
         (2, GetAttr),
         (1, MAKE_M),
-        (1, Lookup { name: "a" }),
+        (1, Lookup { name: b"a" }),
     ],
     replies: &[
         Entry(2, File(3)),

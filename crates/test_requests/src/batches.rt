@@ -11,8 +11,8 @@ use wire::Operation::{BatchForget, Lookup, OpenDir};
 const STORIES: &[Story] = &[Story {
     says: "two nodes, one more that is unknown, the root, and no pair",
     asks: &[
-        (1, Lookup { name: "d" }),
-        (1, Lookup { name: "a" }),
+        (1, Lookup { name: b"d" }),
+        (1, Lookup { name: b"a" }),
         (
             0,
             BatchForget {

@@ -24,7 +24,7 @@ const PAGES: &[Story] = &[
                 },
             ),
             (2, GetAttr),
-            (1, Lookup { name: "e" }),
+            (1, Lookup { name: b"e" }),
         ],
         replies: &[
             Opened(1),
@@ -102,7 +102,7 @@ const PAGES: &[Story] = &[
         says: "names of a folder below the root, and those that the server keeps for itself are left out",
         files: &[&["d", ".fuse_hidden0"], &["d", "x"]],
         asks: &[
-            (1, Lookup { name: "d" }),
+            (1, Lookup { name: b"d" }),
             (2, OpenDir),
             (
                 2,
@@ -133,7 +133,7 @@ const LOOKS: &[Story] = &[
         says: "one that is gone has no node and is not counted, and the kind of its listing",
         asks: &[
             (1, OpenDir),
-            (1, Unlink { name: "a" }),
+            (1, Unlink { name: b"a" }),
             (
                 1,
                 ReadDirPlus {
@@ -158,7 +158,7 @@ const LOOKS: &[Story] = &[
         says: "one that is another thing is told as it stands",
         asks: &[
             (1, OpenDir),
-            (1, Unlink { name: "a" }),
+            (1, Unlink { name: b"a" }),
             (1, MAKE_A),
             (
                 1,
@@ -189,7 +189,7 @@ const LOOKS: &[Story] = &[
                     size: 4096,
                 },
             ),
-            (1, Lookup { name: "e" }),
+            (1, Lookup { name: b"e" }),
         ],
         faults: &[(2, Before(EACCES)), (4, After(5000))],
         replies: &[
@@ -211,14 +211,14 @@ const LOOKS: &[Story] = &[
         says: "its folder has moved, and its names are found where it stands",
         files: &[&["d", "x"]],
         asks: &[
-            (1, Lookup { name: "d" }),
+            (1, Lookup { name: b"d" }),
             (2, OpenDir),
             (
                 1,
                 Rename {
-                    name: "d",
+                    name: b"d",
                     new_parent: 1,
-                    new_name: "y",
+                    new_name: b"y",
                 },
             ),
             (

@@ -54,7 +54,7 @@ const COUNTS: &[Story] = &[
         nodes: 3,
         asks: &[
             (1, OpenDir),
-            (1, Lookup { name: "a" }),
+            (1, Lookup { name: b"a" }),
             (
                 1,
                 ReadDirPlus {
@@ -102,7 +102,7 @@ const REFUSALS: &[Story] = &[
     Story {
         says: "a handle of another node, one that was not given, and one that was given up",
         asks: &[
-            (1, Lookup { name: "d" }),
+            (1, Lookup { name: b"d" }),
             (1, OpenDir),
             (
                 2,
@@ -193,9 +193,9 @@ const REFUSALS: &[Story] = &[
     Story {
         says: "a folder that was removed is stale, also where the page has no names, but EINVAL comes first",
         asks: &[
-            (1, Lookup { name: "d" }),
+            (1, Lookup { name: b"d" }),
             (2, OpenDir),
-            (1, RemoveDir { name: "d" }),
+            (1, RemoveDir { name: b"d" }),
             (
                 2,
                 ReadDirPlus {

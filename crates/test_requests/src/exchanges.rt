@@ -14,22 +14,22 @@ const EXCHANGES: &[Story] = &[
         says: "a file and a folder change places: nodes keep their numbers, with all below",
         files: &[&["d", "x"]],
         asks: &[
-            (1, Lookup { name: "a" }),
-            (1, Lookup { name: "d" }),
-            (3, Lookup { name: "x" }),
+            (1, Lookup { name: b"a" }),
+            (1, Lookup { name: b"d" }),
+            (3, Lookup { name: b"x" }),
             (2, Open { flags: 0 }),
             (
                 1,
                 Rename2 {
-                    name: "a",
+                    name: b"a",
                     new_parent: 1,
                     flags: 2,
-                    new_name: "d",
+                    new_name: b"d",
                 },
             ),
-            (1, Lookup { name: "a" }),
-            (1, Lookup { name: "d" }),
-            (3, Lookup { name: "x" }),
+            (1, Lookup { name: b"a" }),
+            (1, Lookup { name: b"d" }),
+            (3, Lookup { name: b"x" }),
             (2, GetAttr),
             (
                 2,
@@ -64,25 +64,25 @@ const EXCHANGES: &[Story] = &[
         says: "names of two folders",
         files: &[&["d", "x"]],
         asks: &[
-            (1, Lookup { name: "d" }),
+            (1, Lookup { name: b"d" }),
             (
                 1,
                 Rename2 {
-                    name: "a",
+                    name: b"a",
                     new_parent: 2,
                     flags: 2,
-                    new_name: "x",
+                    new_name: b"x",
                 },
             ),
-            (2, Lookup { name: "x" }),
-            (1, Lookup { name: "a" }),
+            (2, Lookup { name: b"x" }),
+            (1, Lookup { name: b"a" }),
             (
                 2,
                 Rename2 {
-                    name: "x",
+                    name: b"x",
                     new_parent: 1,
                     flags: 2,
-                    new_name: "a",
+                    new_name: b"a",
                 },
             ),
             (3, GetAttr),
@@ -103,17 +103,17 @@ const EXCHANGES: &[Story] = &[
     Story {
         says: "two open files, neither of which is hidden",
         asks: &[
-            (1, Lookup { name: "a" }),
-            (1, Lookup { name: "e" }),
+            (1, Lookup { name: b"a" }),
+            (1, Lookup { name: b"e" }),
             (2, Open { flags: 0 }),
             (3, Open { flags: 2 }),
             (
                 1,
                 Rename2 {
-                    name: "e",
+                    name: b"e",
                     new_parent: 1,
                     flags: 2,
-                    new_name: "a",
+                    new_name: b"a",
                 },
             ),
             (
@@ -140,8 +140,8 @@ const EXCHANGES: &[Story] = &[
                     size: 10,
                 },
             ),
-            (1, Lookup { name: "a" }),
-            (1, Lookup { name: "e" }),
+            (1, Lookup { name: b"a" }),
+            (1, Lookup { name: b"e" }),
         ],
         replies: &[
             Entry(2, File(3)),
@@ -166,23 +166,23 @@ const EXCHANGES: &[Story] = &[
     Story {
         says: "a name with itself",
         asks: &[
-            (1, Lookup { name: "a" }),
+            (1, Lookup { name: b"a" }),
             (
                 1,
                 Rename2 {
-                    name: "a",
+                    name: b"a",
                     new_parent: 1,
                     flags: 2,
-                    new_name: "a",
+                    new_name: b"a",
                 },
             ),
             (
                 1,
                 Rename2 {
-                    name: "zz",
+                    name: b"zz",
                     new_parent: 1,
                     flags: 2,
-                    new_name: "zz",
+                    new_name: b"zz",
                 },
             ),
             (2, GetAttr),
@@ -199,14 +199,14 @@ const EXCHANGES: &[Story] = &[
     Story {
         says: "it fails before its work",
         asks: &[
-            (1, Lookup { name: "a" }),
+            (1, Lookup { name: b"a" }),
             (
                 1,
                 Rename2 {
-                    name: "a",
+                    name: b"a",
                     new_parent: 1,
                     flags: 2,
-                    new_name: "e",
+                    new_name: b"e",
                 },
             ),
             (2, GetAttr),
@@ -219,14 +219,14 @@ const EXCHANGES: &[Story] = &[
     Story {
         says: "it fails after its work, so its nodes keep the old names",
         asks: &[
-            (1, Lookup { name: "a" }),
+            (1, Lookup { name: b"a" }),
             (
                 1,
                 Rename2 {
-                    name: "a",
+                    name: b"a",
                     new_parent: 1,
                     flags: 2,
-                    new_name: "e",
+                    new_name: b"e",
                 },
             ),
             (2, GetAttr),

@@ -99,7 +99,7 @@ const BYTES: &[Story] = &[
     Story {
         says: "a gap is filled with zeros, and no file is longer than a million bytes",
         asks: &[
-            (1, Lookup { name: "a" }),
+            (1, Lookup { name: b"a" }),
             (2, Open { flags: 2 }),
             (
                 2,
@@ -157,7 +157,7 @@ const BYTES: &[Story] = &[
     Story {
         says: "it is brought to the disk, and the descriptor closed",
         asks: &[
-            (1, Lookup { name: "a" }),
+            (1, Lookup { name: b"a" }),
             (2, Open { flags: 0 }),
             (2, Sync { fh: 1 }),
             (2, Sync { fh: 1 }),
@@ -172,7 +172,7 @@ const BYTES: &[Story] = &[
     Story {
         says: "the directory fails a read and a write",
         asks: &[
-            (1, Lookup { name: "a" }),
+            (1, Lookup { name: b"a" }),
             (2, Open { flags: 2 }),
             (
                 2,
@@ -213,14 +213,14 @@ const BYTES: &[Story] = &[
     Story {
         says: "an open file is moved, and is read and written still",
         asks: &[
-            (1, Lookup { name: "a" }),
+            (1, Lookup { name: b"a" }),
             (2, Open { flags: 2 }),
             (
                 1,
                 Rename {
-                    name: "a",
+                    name: b"a",
                     new_parent: 1,
-                    new_name: "b",
+                    new_name: b"b",
                 },
             ),
             (
@@ -239,8 +239,8 @@ const BYTES: &[Story] = &[
                     size: 9,
                 },
             ),
-            (1, Lookup { name: "b" }),
-            (1, Lookup { name: "a" }),
+            (1, Lookup { name: b"b" }),
+            (1, Lookup { name: b"a" }),
         ],
         replies: &[
             Entry(2, File(3)),

@@ -13,8 +13,8 @@ const HANDLES: &[Story] = &[
     Story {
         says: "handles that were made up, before an unknown node",
         asks: &[
-            (1, Lookup { name: "a" }),
-            (1, Lookup { name: "e" }),
+            (1, Lookup { name: b"a" }),
+            (1, Lookup { name: b"e" }),
             (2, Open { flags: 2 }),
             (
                 2,
@@ -89,7 +89,7 @@ const HANDLES: &[Story] = &[
     Story {
         says: "a file that is open for reading alone",
         asks: &[
-            (1, Lookup { name: "a" }),
+            (1, Lookup { name: b"a" }),
             (2, Open { flags: 0 }),
             (
                 2,
@@ -152,7 +152,7 @@ const HANDLES: &[Story] = &[
     Story {
         says: "a file that is open for writing alone",
         asks: &[
-            (1, Lookup { name: "a" }),
+            (1, Lookup { name: b"a" }),
             (2, Open { flags: 1 }),
             (
                 2,
@@ -214,7 +214,7 @@ const RELEASED: &[Story] = &[
     Story {
         says: "a handle is given up once, and given to no other file",
         asks: &[
-            (1, Lookup { name: "a" }),
+            (1, Lookup { name: b"a" }),
             (2, Open { flags: 0 }),
             (2, Open { flags: 2 }),
             (1, Release { fh: 1 }),
@@ -241,7 +241,7 @@ const RELEASED: &[Story] = &[
         says: "one file may be open, so another is once it was given up",
         open_files: 1,
         asks: &[
-            (1, Lookup { name: "a" }),
+            (1, Lookup { name: b"a" }),
             (2, Open { flags: 0 }),
             (2, Open { flags: 0 }),
             (2, Release { fh: 1 }),

@@ -24,7 +24,7 @@ const NEW_FOLDERS: &[Story] = &[
             (1, MAKE_RESERVED),
             (9, MAKE_RESERVED),
             (9, MAKE_M),
-            (1, Lookup { name: "a" }),
+            (1, Lookup { name: b"a" }),
             (2, MAKE_M),
         ],
         replies: &[
@@ -39,7 +39,7 @@ const NEW_FOLDERS: &[Story] = &[
     },
     Story {
         says: "it is not made",
-        asks: &[(1, MAKE_M), (1, Lookup { name: "m" })],
+        asks: &[(1, MAKE_M), (1, Lookup { name: b"m" })],
         faults: &[(1, Before(EACCES))],
         replies: &[Failed(EACCES), Failed(ENOENT)],
         after: &[(&["m"], Nothing)],
@@ -47,7 +47,7 @@ const NEW_FOLDERS: &[Story] = &[
     },
     Story {
         says: "it is made, and told as failed",
-        asks: &[(1, MAKE_M), (1, Lookup { name: "m" })],
+        asks: &[(1, MAKE_M), (1, Lookup { name: b"m" })],
         faults: &[(1, After(EIO))],
         replies: &[Failed(EIO), Entry(2, Folder)],
         after: &[(&["m"], Folder)],
@@ -55,7 +55,7 @@ const NEW_FOLDERS: &[Story] = &[
     },
     Story {
         says: "it is made and then not found: it stays, and nothing is given",
-        asks: &[(1, MAKE_M), (1, Lookup { name: "e" })],
+        asks: &[(1, MAKE_M), (1, Lookup { name: b"e" })],
         faults: &[(2, Before(EIO))],
         replies: &[Failed(EIO), Entry(2, File(0))],
         after: &[(&["m"], Folder)],
@@ -73,9 +73,9 @@ const REMOVALS: &[Story] = &[
     Story {
         says: "a file, a folder and nothing are unlinked",
         asks: &[
-            (1, Unlink { name: "a" }),
-            (1, Unlink { name: "d" }),
-            (1, Unlink { name: "zz" }),
+            (1, Unlink { name: b"a" }),
+            (1, Unlink { name: b"d" }),
+            (1, Unlink { name: b"zz" }),
         ],
         replies: &[Done, Failed(EISDIR), Failed(ENOENT)],
         after: &[(&["a"], Nothing), (&["d"], Folder)],
@@ -84,13 +84,13 @@ const REMOVALS: &[Story] = &[
     Story {
         says: "a folder with a name, one without, a file and nothing are removed as folders",
         asks: &[
-            (1, Lookup { name: "d" }),
+            (1, Lookup { name: b"d" }),
             (2, MAKE_M),
-            (1, RemoveDir { name: "d" }),
-            (2, RemoveDir { name: "m" }),
-            (1, RemoveDir { name: "d" }),
-            (1, RemoveDir { name: "a" }),
-            (1, RemoveDir { name: "zz" }),
+            (1, RemoveDir { name: b"d" }),
+            (2, RemoveDir { name: b"m" }),
+            (1, RemoveDir { name: b"d" }),
+            (1, RemoveDir { name: b"a" }),
+            (1, RemoveDir { name: b"zz" }),
         ],
         replies: &[
             Entry(2, Folder),
@@ -110,13 +110,13 @@ const REMOVALS: &[Story] = &[
             (
                 1,
                 Unlink {
-                    name: ".fuse_hidden",
+                    name: b".fuse_hidden",
                 },
             ),
             (
                 9,
                 RemoveDir {
-                    name: ".fuse_hidden0",
+                    name: b".fuse_hidden0",
                 },
             ),
         ],
@@ -126,8 +126,8 @@ const REMOVALS: &[Story] = &[
     Story {
         says: "a removed node is stale, and the same name is another node",
         asks: &[
-            (1, Lookup { name: "a" }),
-            (1, Unlink { name: "a" }),
+            (1, Lookup { name: b"a" }),
+            (1, Unlink { name: b"a" }),
             (2, GetAttr),
             (1, MAKE_A),
             (2, GetAttr),
@@ -144,7 +144,7 @@ const REMOVALS: &[Story] = &[
     },
     Story {
         says: "it fails before its work",
-        asks: &[(1, Unlink { name: "a" }), (1, RemoveDir { name: "d" })],
+        asks: &[(1, Unlink { name: b"a" }), (1, RemoveDir { name: b"d" })],
         faults: &[(1, Before(EACCES)), (2, Before(EIO))],
         replies: &[Failed(EACCES), Failed(EIO)],
         after: &[(&["a"], File(3)), (&["d"], Folder)],
@@ -162,11 +162,11 @@ const FAILED_REMOVE_THEN_RMDIR: &[Story] = &[Story {
     says: "a failed removal, and then its folder's",
     files: &[&["d", "x"]],
     asks: &[
-        (1, Lookup { name: "d" }),
-        (2, Lookup { name: "x" }),
-        (2, Unlink { name: "x" }),
+        (1, Lookup { name: b"d" }),
+        (2, Lookup { name: b"x" }),
+        (2, Unlink { name: b"x" }),
         (3, GetAttr),
-        (1, RemoveDir { name: "d" }),
+        (1, RemoveDir { name: b"d" }),
         (3, GetAttr),
         (2, GetAttr),
     ],

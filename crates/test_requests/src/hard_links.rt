@@ -14,7 +14,7 @@ const NAME_L: (u64, Operation<'static>) = (
     1,
     Link {
         old_node: 2,
-        name: "l",
+        name: b"l",
     },
 );
 
@@ -23,9 +23,9 @@ const REFUSED: &[Story] = &[
     Story {
         says: "what stands in a tree of paths has one name",
         asks: &[
-            (1, Lookup { name: "a" }),
+            (1, Lookup { name: b"a" }),
             NAME_L,
-            (1, Lookup { name: "l" }),
+            (1, Lookup { name: b"l" }),
             (2, GetAttr),
         ],
         replies: &[
@@ -45,30 +45,30 @@ const REFUSED: &[Story] = &[
                 9,
                 Link {
                     old_node: 1,
-                    name: "l",
+                    name: b"l",
                 },
             ),
             (
                 9,
                 Link {
                     old_node: 9,
-                    name: ".fuse_hiddenx",
+                    name: b".fuse_hiddenx",
                 },
             ),
             NAME_L,
-            (1, Lookup { name: "a" }),
+            (1, Lookup { name: b"a" }),
             (
                 9,
                 Link {
                     old_node: 2,
-                    name: "l",
+                    name: b"l",
                 },
             ),
             (
                 2,
                 Link {
                     old_node: 2,
-                    name: "l",
+                    name: b"l",
                 },
             ),
         ],
@@ -86,26 +86,26 @@ const REFUSED: &[Story] = &[
     Story {
         says: "a name that is taken, also by the file itself",
         asks: &[
-            (1, Lookup { name: "a" }),
+            (1, Lookup { name: b"a" }),
             (
                 1,
                 Link {
                     old_node: 2,
-                    name: "a",
+                    name: b"a",
                 },
             ),
             (
                 1,
                 Link {
                     old_node: 2,
-                    name: "d",
+                    name: b"d",
                 },
             ),
             (
                 1,
                 Link {
                     old_node: 2,
-                    name: "e",
+                    name: b"e",
                 },
             ),
         ],
@@ -121,21 +121,21 @@ const REFUSED: &[Story] = &[
     Story {
         says: "a folder, and a name in one",
         asks: &[
-            (1, Lookup { name: "d" }),
+            (1, Lookup { name: b"d" }),
             NAME_L,
             (
                 2,
                 Link {
                     old_node: 2,
-                    name: "x",
+                    name: b"x",
                 },
             ),
-            (1, Lookup { name: "a" }),
+            (1, Lookup { name: b"a" }),
             (
                 2,
                 Link {
                     old_node: 3,
-                    name: "x",
+                    name: b"x",
                 },
             ),
         ],
@@ -152,14 +152,22 @@ const REFUSED: &[Story] = &[
     },
     Story {
         says: "a file that was removed",
-        asks: &[(1, Lookup { name: "a" }), (1, Unlink { name: "a" }), NAME_L],
+        asks: &[
+            (1, Lookup { name: b"a" }),
+            (1, Unlink { name: b"a" }),
+            NAME_L,
+        ],
         replies: &[Entry(2, File(3)), Done, Failed(ESTALE)],
         names: &["d", "e"],
         ..SHOWN
     },
     Story {
         says: "a file whose removal was told as failed",
-        asks: &[(1, Lookup { name: "a" }), (1, Unlink { name: "a" }), NAME_L],
+        asks: &[
+            (1, Lookup { name: b"a" }),
+            (1, Unlink { name: b"a" }),
+            NAME_L,
+        ],
         faults: &[(2, After(EIO))],
         replies: &[Entry(2, File(3)), Failed(EIO), Failed(ENOENT)],
         names: &["d", "e"],
@@ -168,9 +176,9 @@ const REFUSED: &[Story] = &[
     Story {
         says: "an open file that was removed, and is hidden",
         asks: &[
-            (1, Lookup { name: "a" }),
+            (1, Lookup { name: b"a" }),
             (2, Open { flags: 0 }),
-            (1, Unlink { name: "a" }),
+            (1, Unlink { name: b"a" }),
             NAME_L,
             (2, Release { fh: 1 }),
         ],
@@ -180,7 +188,7 @@ const REFUSED: &[Story] = &[
     },
     Story {
         says: "the directory's own fault, and then its refusal",
-        asks: &[(1, Lookup { name: "a" }), NAME_L, NAME_L],
+        asks: &[(1, Lookup { name: b"a" }), NAME_L, NAME_L],
         faults: &[(2, Before(EACCES))],
         replies: &[Entry(2, File(3)), Failed(EACCES), Failed(EPERM)],
         names: &["a", "d", "e"],
@@ -189,7 +197,7 @@ const REFUSED: &[Story] = &[
     Story {
         says: "no node is left for the new name",
         nodes: 2,
-        asks: &[(1, Lookup { name: "a" }), NAME_L],
+        asks: &[(1, Lookup { name: b"a" }), NAME_L],
         replies: &[Entry(2, File(3)), Failed(ENFILE)],
         names: &["a", "d", "e"],
         ..SHOWN
@@ -197,20 +205,20 @@ const REFUSED: &[Story] = &[
     Story {
         says: "files and folders alone: it is not served, whatever it has",
         asks: &[
-            (1, Lookup { name: "a" }),
+            (1, Lookup { name: b"a" }),
             NAME_L,
             (
                 1,
                 Link {
                     old_node: 1,
-                    name: "l",
+                    name: b"l",
                 },
             ),
             (
                 9,
                 Link {
                     old_node: 9,
-                    name: ".fuse_hiddenx",
+                    name: b".fuse_hiddenx",
                 },
             ),
         ],

@@ -22,10 +22,10 @@ const HIDDEN: &[Story] = &[
     Story {
         says: "a removed file is read and written by its handle",
         asks: &[
-            (1, Lookup { name: "a" }),
+            (1, Lookup { name: b"a" }),
             (2, Open { flags: 2 }),
-            (1, Unlink { name: "a" }),
-            (1, Lookup { name: "a" }),
+            (1, Unlink { name: b"a" }),
+            (1, Lookup { name: b"a" }),
             (
                 2,
                 Read {
@@ -66,9 +66,9 @@ const HIDDEN: &[Story] = &[
     Story {
         says: "the input ends while a removed file is open",
         asks: &[
-            (1, Lookup { name: "a" }),
+            (1, Lookup { name: b"a" }),
             (2, Open { flags: 0 }),
-            (1, Unlink { name: "a" }),
+            (1, Unlink { name: b"a" }),
         ],
         replies: &[Entry(2, File(3)), Opened(1), Done],
         after: &[(&["d"], Folder), (&["e"], File(0))],
@@ -78,9 +78,9 @@ const HIDDEN: &[Story] = &[
     Story {
         says: "another file of its name has bytes of its own",
         asks: &[
-            (1, Lookup { name: "a" }),
+            (1, Lookup { name: b"a" }),
             (2, Open { flags: 0 }),
-            (1, Unlink { name: "a" }),
+            (1, Unlink { name: b"a" }),
             (1, CREATE_A),
             (
                 3,
@@ -123,9 +123,9 @@ const HIDDEN: &[Story] = &[
         says: "the first name that is free is taken",
         files: &[&[FIRST]],
         asks: &[
-            (1, Lookup { name: "a" }),
+            (1, Lookup { name: b"a" }),
             (2, Open { flags: 0 }),
-            (1, Unlink { name: "a" }),
+            (1, Unlink { name: b"a" }),
         ],
         // the removal at the end fails
         faults: &[(6, Before(EIO))],
@@ -148,11 +148,11 @@ const HIDDEN: &[Story] = &[
             &[".fuse_hidden0000000200000009"],
         ],
         asks: &[
-            (1, Lookup { name: "a" }),
+            (1, Lookup { name: b"a" }),
             (2, Open { flags: 0 }),
-            (1, Unlink { name: "a" }),
-            (1, Lookup { name: "a" }),
-            (1, Unlink { name: "a" }),
+            (1, Unlink { name: b"a" }),
+            (1, Lookup { name: b"a" }),
+            (1, Unlink { name: b"a" }),
         ],
         // the removal at the end, so that the file can be seen under its hidden name
         faults: &[(16, Before(EIO))],
@@ -173,9 +173,9 @@ const HIDDEN: &[Story] = &[
     Story {
         says: "a look at a name fails",
         asks: &[
-            (1, Lookup { name: "a" }),
+            (1, Lookup { name: b"a" }),
             (2, Open { flags: 0 }),
-            (1, Unlink { name: "a" }),
+            (1, Unlink { name: b"a" }),
         ],
         faults: &[(3, Before(EIO))],
         replies: &[Entry(2, File(3)), Opened(1), Failed(EIO)],
@@ -185,9 +185,9 @@ const HIDDEN: &[Story] = &[
     Story {
         says: "it is moved, and the move fails: the file is left, and the node named as it was",
         asks: &[
-            (1, Lookup { name: "a" }),
+            (1, Lookup { name: b"a" }),
             (2, Open { flags: 0 }),
-            (1, Unlink { name: "a" }),
+            (1, Unlink { name: b"a" }),
             (2, GetAttr),
         ],
         faults: &[(4, After(EIO))],
@@ -198,11 +198,11 @@ const HIDDEN: &[Story] = &[
     Story {
         says: "a file that nobody has open is removed, and a folder is never hidden",
         asks: &[
-            (1, Lookup { name: "a" }),
+            (1, Lookup { name: b"a" }),
             (2, Open { flags: 0 }),
-            (1, RemoveDir { name: "a" }),
+            (1, RemoveDir { name: b"a" }),
             (2, Release { fh: 1 }),
-            (1, Unlink { name: "a" }),
+            (1, Unlink { name: b"a" }),
         ],
         replies: &[Entry(2, File(3)), Opened(1), Failed(ENOTDIR), Done, Done],
         after: &[(&["a"], Nothing), (&[FIRST], Nothing)],

@@ -115,7 +115,7 @@ fn tell_set<H: Wait + RandomSource>(rt: &H, alloc: Global, set: Set) -> Result<(
     let story = Story {
         says: sets,
         asks: &[
-            (1, Lookup { name: "a" }),
+            (1, Lookup { name: b"a" }),
             (2, Open { flags: 2 }),
             (2, Open { flags: 0 }),
             (2, set_of(valid, fh, size)),
@@ -167,9 +167,9 @@ fn tell_fails<H: Wait + RandomSource>(rt: &H, alloc: Global, fails: Fails) -> Re
     let story = Story {
         says,
         asks: &[
-            (1, Lookup { name: "a" }),
+            (1, Lookup { name: b"a" }),
             (2, set_of(0x7bf, 0, 600)),
-            (1, Lookup { name: "e" }),
+            (1, Lookup { name: b"e" }),
         ],
         faults: &[(call, fault), (call.saturating_add(1), Before(ENOSPC))],
         replies: &[Entry(2, File(3)), Failed(EIO), Failed(ENOSPC)],

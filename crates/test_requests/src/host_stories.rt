@@ -19,9 +19,9 @@ const TOLD: &[Story] = &[
         says: "attributes of the root, a file and a folder",
         asks: &[
             (1, GetAttr),
-            (1, Lookup { name: "a" }),
+            (1, Lookup { name: b"a" }),
             (2, GetAttr),
-            (1, Lookup { name: "d" }),
+            (1, Lookup { name: b"d" }),
             (3, GetAttr),
         ],
         replies: &[
@@ -66,7 +66,7 @@ const TOLD: &[Story] = &[
             (
                 1,
                 MakeDir {
-                    name: "m",
+                    name: b"m",
                     mode: 0o40700,
                     umask: 0o022,
                 },
@@ -74,7 +74,7 @@ const TOLD: &[Story] = &[
             (
                 2,
                 Create {
-                    name: "n",
+                    name: b"n",
                     flags: 2,
                     mode: 0o100600,
                     umask: 0o077,

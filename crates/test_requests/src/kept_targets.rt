@@ -13,34 +13,34 @@ const KEPT: &[Story] = &[
     Story {
         says: "what stands there is not replaced, and an open file not hidden",
         asks: &[
-            (1, Lookup { name: "a" }),
-            (1, Lookup { name: "e" }),
+            (1, Lookup { name: b"a" }),
+            (1, Lookup { name: b"e" }),
             (3, Open { flags: 0 }),
             (
                 1,
                 Rename2 {
-                    name: "a",
+                    name: b"a",
                     new_parent: 1,
                     flags: 1,
-                    new_name: "e",
+                    new_name: b"e",
                 },
             ),
             (
                 1,
                 Rename2 {
-                    name: "a",
+                    name: b"a",
                     new_parent: 1,
                     flags: 1,
-                    new_name: "d",
+                    new_name: b"d",
                 },
             ),
             (
                 1,
                 Rename2 {
-                    name: "d",
+                    name: b"d",
                     new_parent: 1,
                     flags: 1,
-                    new_name: "a",
+                    new_name: b"a",
                 },
             ),
             (
@@ -73,29 +73,29 @@ const KEPT: &[Story] = &[
     Story {
         says: "a file and a folder are moved to what is free",
         asks: &[
-            (1, Lookup { name: "a" }),
-            (1, Lookup { name: "d" }),
+            (1, Lookup { name: b"a" }),
+            (1, Lookup { name: b"d" }),
             (
                 1,
                 Rename2 {
-                    name: "a",
+                    name: b"a",
                     new_parent: 3,
                     flags: 1,
-                    new_name: "x",
+                    new_name: b"x",
                 },
             ),
             (
                 1,
                 Rename2 {
-                    name: "d",
+                    name: b"d",
                     new_parent: 1,
                     flags: 1,
-                    new_name: "b",
+                    new_name: b"b",
                 },
             ),
-            (3, Lookup { name: "x" }),
+            (3, Lookup { name: b"x" }),
             (2, GetAttr),
-            (1, Lookup { name: "a" }),
+            (1, Lookup { name: b"a" }),
         ],
         replies: &[
             Entry(2, File(3)),
@@ -113,41 +113,41 @@ const KEPT: &[Story] = &[
         says: "a name to itself, below itself, and above itself",
         files: &[&["d", "x"]],
         asks: &[
-            (1, Lookup { name: "d" }),
+            (1, Lookup { name: b"d" }),
             (
                 1,
                 Rename2 {
-                    name: "d",
+                    name: b"d",
                     new_parent: 1,
                     flags: 1,
-                    new_name: "d",
+                    new_name: b"d",
                 },
             ),
             (
                 1,
                 Rename2 {
-                    name: "zz",
+                    name: b"zz",
                     new_parent: 1,
                     flags: 1,
-                    new_name: "zz",
+                    new_name: b"zz",
                 },
             ),
             (
                 1,
                 Rename2 {
-                    name: "d",
+                    name: b"d",
                     new_parent: 2,
                     flags: 1,
-                    new_name: "y",
+                    new_name: b"y",
                 },
             ),
             (
                 2,
                 Rename2 {
-                    name: "x",
+                    name: b"x",
                     new_parent: 1,
                     flags: 1,
-                    new_name: "d",
+                    new_name: b"d",
                 },
             ),
         ],
@@ -164,24 +164,24 @@ const KEPT: &[Story] = &[
     Story {
         says: "what is absent, and a folder that no longer stands",
         asks: &[
-            (1, Lookup { name: "d" }),
-            (1, RemoveDir { name: "d" }),
+            (1, Lookup { name: b"d" }),
+            (1, RemoveDir { name: b"d" }),
             (
                 1,
                 Rename2 {
-                    name: "zz",
+                    name: b"zz",
                     new_parent: 1,
                     flags: 1,
-                    new_name: "a",
+                    new_name: b"a",
                 },
             ),
             (
                 1,
                 Rename2 {
-                    name: "a",
+                    name: b"a",
                     new_parent: 2,
                     flags: 1,
-                    new_name: "x",
+                    new_name: b"x",
                 },
             ),
         ],
@@ -192,18 +192,18 @@ const KEPT: &[Story] = &[
     Story {
         says: "flags 0 hide an open file that is replaced",
         asks: &[
-            (1, Lookup { name: "a" }),
+            (1, Lookup { name: b"a" }),
             (2, Open { flags: 0 }),
             (
                 1,
                 Rename2 {
-                    name: "e",
+                    name: b"e",
                     new_parent: 1,
                     flags: 0,
-                    new_name: "a",
+                    new_name: b"a",
                 },
             ),
-            (1, Lookup { name: "a" }),
+            (1, Lookup { name: b"a" }),
             (
                 2,
                 Read {
@@ -226,27 +226,27 @@ const KEPT: &[Story] = &[
     Story {
         says: "it fails before its work, and after it",
         asks: &[
-            (1, Lookup { name: "a" }),
+            (1, Lookup { name: b"a" }),
             (
                 1,
                 Rename2 {
-                    name: "a",
+                    name: b"a",
                     new_parent: 1,
                     flags: 1,
-                    new_name: "b",
+                    new_name: b"b",
                 },
             ),
             (
                 1,
                 Rename2 {
-                    name: "a",
+                    name: b"a",
                     new_parent: 1,
                     flags: 1,
-                    new_name: "b",
+                    new_name: b"b",
                 },
             ),
             (2, GetAttr),
-            (1, Lookup { name: "b" }),
+            (1, Lookup { name: b"b" }),
         ],
         faults: &[(2, Before(EIO)), (3, After(EIO))],
         replies: &[

@@ -16,11 +16,11 @@ const FIRST: &str = ".fuse_hidden0000000200000000";
 const OF_THREE: &str = ".fuse_hidden000000030000000a";
 
 /// `a` is looked up, opened, removed, read through either of two handles, and closed.
-const FOUND: (u64, Operation<'static>) = (1, Lookup { name: "a" });
+const FOUND: (u64, Operation<'static>) = (1, Lookup { name: b"a" });
 
 const OPENED: (u64, Operation<'static>) = (2, Open { flags: 0 });
 
-const REMOVED: (u64, Operation<'static>) = (1, Unlink { name: "a" });
+const REMOVED: (u64, Operation<'static>) = (1, Unlink { name: b"a" });
 
 const READ_ONE: (u64, Operation<'static>) = (
     2,
@@ -80,9 +80,9 @@ const STORIES: &[Story] = &[
             CLOSED_ONE,
             READ_TWO,
             CLOSED_TWO,
-            (1, Lookup { name: "e" }),
+            (1, Lookup { name: b"e" }),
             (3, Open { flags: 0 }),
-            (1, Unlink { name: "e" }),
+            (1, Unlink { name: b"e" }),
         ],
         // the removal at the end
         faults: &[(13, Before(EIO))],
@@ -110,13 +110,13 @@ const STORIES: &[Story] = &[
     Story {
         says: "its folder is empty once its last handle is given up",
         asks: &[
-            (1, Lookup { name: "d" }),
+            (1, Lookup { name: b"d" }),
             (2, CREATE_X),
-            (2, Unlink { name: "x" }),
-            (1, RemoveDir { name: "d" }),
+            (2, Unlink { name: b"x" }),
+            (1, RemoveDir { name: b"d" }),
             (3, Release { fh: 1 }),
             (3, Release { fh: 1 }),
-            (1, RemoveDir { name: "d" }),
+            (1, RemoveDir { name: b"d" }),
         ],
         replies: &[
             Entry(2, Folder),

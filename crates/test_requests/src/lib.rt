@@ -1,4 +1,5 @@
-//! Tests across the crates: requests one after another, with the reply to each and what is in the folder at the end.
+//! Tests across the crates: requests one after another, with the reply to each and what is in the folder at the end; and links over streams
+//! and over a device (`streams`).
 #![tactic(auto)]
 
 #[cfg(test)]
@@ -7,6 +8,8 @@ mod answers;
 mod attributes;
 #[cfg(test)]
 mod batches;
+#[cfg(test)]
+mod byte_names;
 #[cfg(test)]
 mod entries;
 #[cfg(test)]
@@ -40,6 +43,8 @@ mod moved_links;
 #[cfg(test)]
 mod open_files;
 #[cfg(test)]
+mod owners;
+#[cfg(test)]
 mod refused_exchanges;
 #[cfg(test)]
 mod refused_links;
@@ -51,3 +56,5 @@ mod replaced_files;
 mod requests;
 #[cfg(test)]
 mod stories;
+#[cfg(test)]
+mod streams;

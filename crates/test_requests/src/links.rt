@@ -29,7 +29,7 @@ const MADE: &[Story] = &[
             LINK_L,
             (2, ReadLink),
             (2, GetAttr),
-            (1, Lookup { name: "l" }),
+            (1, Lookup { name: b"l" }),
         ],
         replies: &[
             Entry(2, Link(6)),
@@ -51,7 +51,7 @@ const MADE: &[Story] = &[
             (
                 1,
                 MakeLink {
-                    name: "l",
+                    name: b"l",
                     text: b"\xff/../ \x01",
                 },
             ),
@@ -59,7 +59,7 @@ const MADE: &[Story] = &[
             (
                 1,
                 MakeLink {
-                    name: "m",
+                    name: b"m",
                     text: b"m",
                 },
             ),
@@ -176,7 +176,7 @@ fn tell_text<H: Wait + RandomSource>(
     text: &[u8],
     says: Says<'_>,
 ) -> Result<(), Fail> {
-    let asks = [(1, MakeLink { name: "l", text })];
+    let asks = [(1, MakeLink { name: b"l", text })];
     tell_asks(rt, alloc, &asks, &[says])
 }
 

@@ -93,7 +93,7 @@ const PAGES: &[Story] = &[
             &["d", ".fuse_hidden0"],
         ],
         asks: &[
-            (1, Lookup { name: "d" }),
+            (1, Lookup { name: b"d" }),
             (2, OpenDir),
             (2, MAKE_M),
             (
@@ -145,7 +145,7 @@ const HANDLES: &[Story] = &[
     Story {
         says: "a handle of another node, one that was not given, and one that was given up",
         asks: &[
-            (1, Lookup { name: "d" }),
+            (1, Lookup { name: b"d" }),
             (1, OpenDir),
             (
                 2,
@@ -202,7 +202,7 @@ const HANDLES: &[Story] = &[
     Story {
         says: "a file, an unknown node, and a directory that fails before its work and after it",
         asks: &[
-            (1, Lookup { name: "a" }),
+            (1, Lookup { name: b"a" }),
             (2, OpenDir),
             (9, OpenDir),
             (1, OpenDir),
@@ -223,9 +223,9 @@ const HANDLES: &[Story] = &[
     Story {
         says: "a folder that was removed is read on, and its node is gone for the table alone",
         asks: &[
-            (1, Lookup { name: "d" }),
+            (1, Lookup { name: b"d" }),
             (2, OpenDir),
-            (1, RemoveDir { name: "d" }),
+            (1, RemoveDir { name: b"d" }),
             (2, OpenDir),
             (
                 2,

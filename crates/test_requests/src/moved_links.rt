@@ -15,9 +15,9 @@ use wire::Operation::{
 const ONTO_A: (u64, Operation<'static>) = (
     1,
     Rename {
-        name: "l",
+        name: b"l",
         new_parent: 1,
-        new_name: "a",
+        new_name: b"a",
     },
 );
 
@@ -26,8 +26,8 @@ const MOVED: &[Story] = &[
         says: "a link is removed",
         asks: &[
             LINK_L,
-            (1, Unlink { name: "l" }),
-            (1, Lookup { name: "l" }),
+            (1, Unlink { name: b"l" }),
+            (1, Lookup { name: b"l" }),
             (2, ReadLink),
         ],
         replies: &[Entry(2, Link(6)), Done, Failed(ENOENT), Failed(ESTALE)],
@@ -39,11 +39,11 @@ const MOVED: &[Story] = &[
         says: "a link is moved onto a file",
         asks: &[
             LINK_L,
-            (1, Lookup { name: "a" }),
+            (1, Lookup { name: b"a" }),
             ONTO_A,
             (2, ReadLink),
-            (1, Lookup { name: "a" }),
-            (1, Lookup { name: "l" }),
+            (1, Lookup { name: b"a" }),
+            (1, Lookup { name: b"l" }),
             (3, GetAttr),
         ],
         replies: &[
@@ -66,12 +66,12 @@ const MOVED: &[Story] = &[
             (
                 1,
                 Rename {
-                    name: "a",
+                    name: b"a",
                     new_parent: 1,
-                    new_name: "l",
+                    new_name: b"l",
                 },
             ),
-            (1, Lookup { name: "l" }),
+            (1, Lookup { name: b"l" }),
             (2, ReadLink),
         ],
         replies: &[Entry(2, Link(6)), Done, Entry(3, File(3)), Failed(ESTALE)],
@@ -85,17 +85,17 @@ const MOVED: &[Story] = &[
             (
                 1,
                 Rename {
-                    name: "l",
+                    name: b"l",
                     new_parent: 1,
-                    new_name: "d",
+                    new_name: b"d",
                 },
             ),
             (
                 1,
                 Rename {
-                    name: "d",
+                    name: b"d",
                     new_parent: 1,
-                    new_name: "l",
+                    new_name: b"l",
                 },
             ),
         ],
@@ -106,7 +106,7 @@ const MOVED: &[Story] = &[
     Story {
         says: "a link is moved onto an open file, which is read until it is closed",
         asks: &[
-            (1, Lookup { name: "a" }),
+            (1, Lookup { name: b"a" }),
             (2, Open { flags: 0 }),
             LINK_L,
             ONTO_A,
@@ -119,7 +119,7 @@ const MOVED: &[Story] = &[
                 },
             ),
             (3, ReadLink),
-            (1, Lookup { name: "a" }),
+            (1, Lookup { name: b"a" }),
             (2, Release { fh: 1 }),
         ],
         replies: &[
@@ -140,27 +140,27 @@ const MOVED: &[Story] = &[
         says: "a link replaces nothing where it shall not, and is exchanged with a file",
         asks: &[
             LINK_L,
-            (1, Lookup { name: "a" }),
+            (1, Lookup { name: b"a" }),
             (
                 1,
                 Rename2 {
-                    name: "l",
+                    name: b"l",
                     new_parent: 1,
                     flags: 1,
-                    new_name: "a",
+                    new_name: b"a",
                 },
             ),
             (
                 1,
                 Rename2 {
-                    name: "l",
+                    name: b"l",
                     new_parent: 1,
                     flags: 2,
-                    new_name: "a",
+                    new_name: b"a",
                 },
             ),
             (2, ReadLink),
-            (1, Lookup { name: "a" }),
+            (1, Lookup { name: b"a" }),
             (3, GetAttr),
         ],
         replies: &[

@@ -14,13 +14,13 @@ const OPENED: &[Story] = &[
     Story {
         says: "a file is opened twice, and one is made",
         asks: &[
-            (1, Lookup { name: "a" }),
+            (1, Lookup { name: b"a" }),
             (2, Open { flags: 0 }),
             (2, Open { flags: 0x8002 }),
             (
                 1,
                 Create {
-                    name: "n",
+                    name: b"n",
                     flags: 1,
                     mode: 0,
                     umask: 0,
@@ -46,7 +46,7 @@ const OPENED: &[Story] = &[
             (
                 1,
                 Create {
-                    name: "a",
+                    name: b"a",
                     flags: 3,
                     mode: 0,
                     umask: 0,
@@ -55,7 +55,7 @@ const OPENED: &[Story] = &[
             (
                 1,
                 Create {
-                    name: "a",
+                    name: b"a",
                     flags: 0,
                     mode: 0,
                     umask: 0,
@@ -64,7 +64,7 @@ const OPENED: &[Story] = &[
             (
                 9,
                 Create {
-                    name: "n",
+                    name: b"n",
                     flags: 0,
                     mode: 0,
                     umask: 0,
@@ -85,12 +85,12 @@ const OPENED: &[Story] = &[
         says: "a folder, and a reserved name",
         asks: &[
             (1, Open { flags: 0 }),
-            (1, Lookup { name: "d" }),
+            (1, Lookup { name: b"d" }),
             (2, Open { flags: 2 }),
             (
                 1,
                 Create {
-                    name: ".fuse_hidden0",
+                    name: b".fuse_hidden0",
                     flags: 3,
                     mode: 0,
                     umask: 0,
@@ -112,7 +112,7 @@ const OPENED: &[Story] = &[
             (
                 1,
                 Create {
-                    name: "n",
+                    name: b"n",
                     flags: 0,
                     mode: 0,
                     umask: 0,
@@ -121,7 +121,7 @@ const OPENED: &[Story] = &[
             (
                 1,
                 Create {
-                    name: "m",
+                    name: b"m",
                     flags: 0,
                     mode: 0,
                     umask: 0,
@@ -130,7 +130,7 @@ const OPENED: &[Story] = &[
             (
                 1,
                 Create {
-                    name: "m",
+                    name: b"m",
                     flags: 0,
                     mode: 0,
                     umask: 0,
@@ -139,7 +139,7 @@ const OPENED: &[Story] = &[
             (
                 1,
                 Create {
-                    name: "k",
+                    name: b"k",
                     flags: 0,
                     mode: 0,
                     umask: 0,
@@ -163,7 +163,7 @@ const FILE_LIMIT: &[Story] = &[Story {
     says: "the file is open already, so none is opened or made",
     open_files: 1,
     asks: &[
-        (1, Lookup { name: "a" }),
+        (1, Lookup { name: b"a" }),
         (2, Open { flags: 0 }),
         (2, Open { flags: 0 }),
         (1, CREATE_N),

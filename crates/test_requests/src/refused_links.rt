@@ -17,9 +17,9 @@ const REFUSED: &[Story] = &[
     Story {
         says: "what is no link has no text",
         asks: &[
-            (1, Lookup { name: "a" }),
+            (1, Lookup { name: b"a" }),
             (2, ReadLink),
-            (1, Lookup { name: "d" }),
+            (1, Lookup { name: b"d" }),
             (3, ReadLink),
             (1, ReadLink),
             (9, ReadLink),
@@ -40,14 +40,14 @@ const REFUSED: &[Story] = &[
             (
                 1,
                 MakeLink {
-                    name: "a",
+                    name: b"a",
                     text: b"x",
                 },
             ),
             (
                 1,
                 MakeLink {
-                    name: "d",
+                    name: b"d",
                     text: b"x",
                 },
             ),
@@ -55,7 +55,7 @@ const REFUSED: &[Story] = &[
             (
                 1,
                 MakeLink {
-                    name: "l",
+                    name: b"l",
                     text: b"x",
                 },
             ),
@@ -75,36 +75,36 @@ const REFUSED: &[Story] = &[
             (
                 1,
                 MakeLink {
-                    name: "l",
+                    name: b"l",
                     text: b"",
                 },
             ),
             (
                 1,
                 MakeLink {
-                    name: "a",
+                    name: b"a",
                     text: b"",
                 },
             ),
             (
                 1,
                 MakeLink {
-                    name: ".fuse_hiddenx",
+                    name: b".fuse_hiddenx",
                     text: b"x",
                 },
             ),
             (
                 9,
                 MakeLink {
-                    name: "l",
+                    name: b"l",
                     text: b"x",
                 },
             ),
-            (1, Lookup { name: "a" }),
+            (1, Lookup { name: b"a" }),
             (
                 2,
                 MakeLink {
-                    name: "l",
+                    name: b"l",
                     text: b"x",
                 },
             ),
@@ -127,13 +127,13 @@ const REFUSED: &[Story] = &[
             (2, Open { flags: 0 }),
             (2, Open { flags: 2 }),
             (2, OpenDir),
-            (2, Lookup { name: "none" }),
+            (2, Lookup { name: b"none" }),
             (2, MAKE_M),
             (2, CREATE_N),
             (
                 1,
                 Create {
-                    name: "l",
+                    name: b"l",
                     flags: 2,
                     mode: 0,
                     umask: 0,
@@ -142,12 +142,12 @@ const REFUSED: &[Story] = &[
             (
                 1,
                 MakeDir {
-                    name: "l",
+                    name: b"l",
                     mode: 0,
                     umask: 0,
                 },
             ),
-            (1, RemoveDir { name: "l" }),
+            (1, RemoveDir { name: b"l" }),
             (
                 2,
                 SetAttr {
@@ -177,7 +177,7 @@ const REFUSED: &[Story] = &[
     },
     Story {
         says: "it is not made",
-        asks: &[LINK_L, (1, Lookup { name: "l" })],
+        asks: &[LINK_L, (1, Lookup { name: b"l" })],
         faults: &[(1, Before(EACCES))],
         replies: &[Failed(EACCES), Failed(ENOENT)],
         after: &[(&["l"], Nothing)],
@@ -185,7 +185,7 @@ const REFUSED: &[Story] = &[
     },
     Story {
         says: "it is made, and told as failed",
-        asks: &[LINK_L, (1, Lookup { name: "l" })],
+        asks: &[LINK_L, (1, Lookup { name: b"l" })],
         faults: &[(1, After(EIO))],
         replies: &[Failed(EIO), Entry(2, Link(6))],
         after: &[(&["l"], Link(6))],
@@ -193,7 +193,7 @@ const REFUSED: &[Story] = &[
     },
     Story {
         says: "it is made and then not found: it stays, and nothing is given",
-        asks: &[LINK_L, (1, Lookup { name: "e" })],
+        asks: &[LINK_L, (1, Lookup { name: b"e" })],
         faults: &[(2, Before(EIO))],
         replies: &[Failed(EIO), Entry(2, File(0))],
         after: &[(&["l"], Link(6))],
@@ -213,14 +213,14 @@ const REFUSED: &[Story] = &[
             (
                 1,
                 MakeLink {
-                    name: "l",
+                    name: b"l",
                     text: b"",
                 },
             ),
             (
                 9,
                 MakeLink {
-                    name: ".fuse_hiddenx",
+                    name: b".fuse_hiddenx",
                     text: b"x",
                 },
             ),

@@ -14,18 +14,18 @@ const RENAMES: &[Story] = &[
     Story {
         says: "a file is renamed, and keeps its number",
         asks: &[
-            (1, Lookup { name: "a" }),
+            (1, Lookup { name: b"a" }),
             (
                 1,
                 Rename {
-                    name: "a",
+                    name: b"a",
                     new_parent: 1,
-                    new_name: "b",
+                    new_name: b"b",
                 },
             ),
             (2, GetAttr),
-            (1, Lookup { name: "b" }),
-            (1, Lookup { name: "a" }),
+            (1, Lookup { name: b"b" }),
+            (1, Lookup { name: b"a" }),
         ],
         replies: &[
             Entry(2, File(3)),
@@ -40,17 +40,17 @@ const RENAMES: &[Story] = &[
     Story {
         says: "a file replaces another, whose node is stale then",
         asks: &[
-            (1, Lookup { name: "e" }),
+            (1, Lookup { name: b"e" }),
             (
                 1,
                 Rename {
-                    name: "a",
+                    name: b"a",
                     new_parent: 1,
-                    new_name: "e",
+                    new_name: b"e",
                 },
             ),
             (2, GetAttr),
-            (1, Lookup { name: "e" }),
+            (1, Lookup { name: b"e" }),
         ],
         replies: &[Entry(2, File(0)), Done, Failed(ESTALE), Entry(3, File(3))],
         after: &[(&["a"], Nothing), (&["e"], File(3))],
@@ -59,24 +59,24 @@ const RENAMES: &[Story] = &[
     Story {
         says: "a file is moved into a folder, and the folder moved with it",
         asks: &[
-            (1, Lookup { name: "d" }),
+            (1, Lookup { name: b"d" }),
             (
                 1,
                 Rename {
-                    name: "a",
+                    name: b"a",
                     new_parent: 2,
-                    new_name: "x",
+                    new_name: b"x",
                 },
             ),
             (
                 1,
                 Rename {
-                    name: "d",
+                    name: b"d",
                     new_parent: 1,
-                    new_name: "f",
+                    new_name: b"f",
                 },
             ),
-            (2, Lookup { name: "x" }),
+            (2, Lookup { name: b"x" }),
         ],
         replies: &[Entry(2, Folder), Done, Done, Entry(3, File(3))],
         after: &[(&["f", "x"], File(3)), (&["d"], Nothing)],
@@ -88,33 +88,33 @@ const RENAMES: &[Story] = &[
             (
                 1,
                 Rename {
-                    name: "zz",
+                    name: b"zz",
                     new_parent: 1,
-                    new_name: "b",
+                    new_name: b"b",
                 },
             ),
             (
                 1,
                 Rename {
-                    name: "zz",
+                    name: b"zz",
                     new_parent: 1,
-                    new_name: "zz",
+                    new_name: b"zz",
                 },
             ),
             (
                 1,
                 Rename {
-                    name: "a",
+                    name: b"a",
                     new_parent: 1,
-                    new_name: "d",
+                    new_name: b"d",
                 },
             ),
             (
                 1,
                 Rename {
-                    name: "d",
+                    name: b"d",
                     new_parent: 1,
-                    new_name: "a",
+                    new_name: b"a",
                 },
             ),
         ],
@@ -133,33 +133,33 @@ const RENAMES: &[Story] = &[
             (
                 1,
                 Rename {
-                    name: ".fuse_hidden",
+                    name: b".fuse_hidden",
                     new_parent: 1,
-                    new_name: "b",
+                    new_name: b"b",
                 },
             ),
             (
                 9,
                 Rename {
-                    name: "a",
+                    name: b"a",
                     new_parent: 9,
-                    new_name: ".fuse_hiddenb",
+                    new_name: b".fuse_hiddenb",
                 },
             ),
             (
                 9,
                 Rename {
-                    name: "a",
+                    name: b"a",
                     new_parent: 1,
-                    new_name: "b",
+                    new_name: b"b",
                 },
             ),
             (
                 1,
                 Rename {
-                    name: "a",
+                    name: b"a",
                     new_parent: 9,
-                    new_name: "b",
+                    new_name: b"b",
                 },
             ),
         ],
@@ -172,9 +172,9 @@ const RENAMES: &[Story] = &[
         asks: &[(
             1,
             Rename {
-                name: "a",
+                name: b"a",
                 new_parent: 1,
-                new_name: "b",
+                new_name: b"b",
             },
         )],
         faults: &[(1, Before(EACCES))],
@@ -185,17 +185,17 @@ const RENAMES: &[Story] = &[
     Story {
         says: "it fails after its work, so its node keeps the old name",
         asks: &[
-            (1, Lookup { name: "a" }),
+            (1, Lookup { name: b"a" }),
             (
                 1,
                 Rename {
-                    name: "a",
+                    name: b"a",
                     new_parent: 1,
-                    new_name: "b",
+                    new_name: b"b",
                 },
             ),
             (2, GetAttr),
-            (1, Lookup { name: "b" }),
+            (1, Lookup { name: b"b" }),
         ],
         faults: &[(2, After(EIO))],
         replies: &[
@@ -219,14 +219,14 @@ const MOVES_ONTO_OWN_FRONTS: &[Story] = &[
     Story {
         says: "a folder is moved below itself",
         asks: &[
-            (1, Lookup { name: "d" }),
+            (1, Lookup { name: b"d" }),
             (2, MAKE_X),
             (
                 1,
                 Rename {
-                    name: "d",
+                    name: b"d",
                     new_parent: 3,
-                    new_name: "y",
+                    new_name: b"y",
                 },
             ),
             (3, GetAttr),
@@ -244,15 +244,15 @@ const MOVES_ONTO_OWN_FRONTS: &[Story] = &[
         says: "a name is moved onto a folder above it",
         files: &[&["d", "b"]],
         asks: &[
-            (1, Lookup { name: "d" }),
+            (1, Lookup { name: b"d" }),
             (2, MAKE_X),
             (3, MAKE_C),
             (
                 3,
                 Rename {
-                    name: "c",
+                    name: b"c",
                     new_parent: 1,
-                    new_name: "d",
+                    new_name: b"d",
                 },
             ),
             (4, GetAttr),
@@ -270,16 +270,16 @@ const MOVES_ONTO_OWN_FRONTS: &[Story] = &[
     Story {
         says: "a name is moved onto the first of the two folders above it",
         asks: &[
-            (1, Unlink { name: "a" }),
+            (1, Unlink { name: b"a" }),
             (1, MAKE_A),
             (2, MAKE_B),
             (3, MAKE_C),
             (
                 3,
                 Rename {
-                    name: "c",
+                    name: b"c",
                     new_parent: 1,
-                    new_name: "a",
+                    new_name: b"a",
                 },
             ),
             (4, GetAttr),
@@ -299,30 +299,30 @@ const MOVES_ONTO_OWN_FRONTS: &[Story] = &[
         says: "a file is moved onto its own folder and onto itself, and the folder below the file",
         files: &[&["d", "b"]],
         asks: &[
-            (1, Lookup { name: "d" }),
-            (2, Lookup { name: "b" }),
+            (1, Lookup { name: b"d" }),
+            (2, Lookup { name: b"b" }),
             (
                 2,
                 Rename {
-                    name: "b",
+                    name: b"b",
                     new_parent: 1,
-                    new_name: "d",
+                    new_name: b"d",
                 },
             ),
             (
                 1,
                 Rename {
-                    name: "d",
+                    name: b"d",
                     new_parent: 2,
-                    new_name: "b",
+                    new_name: b"b",
                 },
             ),
             (
                 2,
                 Rename {
-                    name: "b",
+                    name: b"b",
                     new_parent: 2,
-                    new_name: "b",
+                    new_name: b"b",
                 },
             ),
             (3, GetAttr),
@@ -341,13 +341,13 @@ const MOVES_ONTO_OWN_FRONTS: &[Story] = &[
     Story {
         says: "a name is moved onto itself",
         asks: &[
-            (1, Lookup { name: "a" }),
+            (1, Lookup { name: b"a" }),
             (
                 1,
                 Rename {
-                    name: "a",
+                    name: b"a",
                     new_parent: 1,
-                    new_name: "a",
+                    new_name: b"a",
                 },
             ),
             (2, GetAttr),

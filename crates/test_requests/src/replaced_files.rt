@@ -16,7 +16,7 @@ const FIRST: &str = ".fuse_hidden0000000200000000";
 const OF_THREE: &str = ".fuse_hidden0000000300000000";
 
 /// `a` is looked up and opened, with two calls.
-const FOUND: (u64, Operation<'static>) = (1, Lookup { name: "a" });
+const FOUND: (u64, Operation<'static>) = (1, Lookup { name: b"a" });
 
 const OPENED: (u64, Operation<'static>) = (2, Open { flags: 0 });
 
@@ -24,9 +24,9 @@ const OPENED: (u64, Operation<'static>) = (2, Open { flags: 0 });
 const MOVED: (u64, Operation<'static>) = (
     1,
     Rename {
-        name: "e",
+        name: b"e",
         new_parent: 1,
-        new_name: "a",
+        new_name: b"a",
     },
 );
 
@@ -44,7 +44,14 @@ const READ: (u64, Operation<'static>) = (
 const HIDDEN_THEN_RENAME_FAILS: &[Story] = &[
     Story {
         says: "the file is hidden, and then the move fails",
-        asks: &[FOUND, OPENED, MOVED, FOUND, READ, (1, Lookup { name: "e" })],
+        asks: &[
+            FOUND,
+            OPENED,
+            MOVED,
+            FOUND,
+            READ,
+            (1, Lookup { name: b"e" }),
+        ],
         // the fourth call of the RENAME, and the removal at the end
         faults: &[(6, Before(EIO)), (10, Before(EIO))],
         replies: &[
@@ -62,7 +69,7 @@ const HIDDEN_THEN_RENAME_FAILS: &[Story] = &[
         says: "the file is hidden, and another stands at its place",
         asks: &[
             FOUND,
-            (1, Lookup { name: "e" }),
+            (1, Lookup { name: b"e" }),
             OPENED,
             MOVED,
             FOUND,
@@ -115,17 +122,17 @@ const HIDDEN_THEN_RENAME_FAILS: &[Story] = &[
             (
                 1,
                 Rename {
-                    name: "zz",
+                    name: b"zz",
                     new_parent: 1,
-                    new_name: "a",
+                    new_name: b"a",
                 },
             ),
             (
                 1,
                 Rename {
-                    name: "d",
+                    name: b"d",
                     new_parent: 1,
-                    new_name: "a",
+                    new_name: b"a",
                 },
             ),
             READ,
@@ -176,9 +183,9 @@ const REPLACED: &[Story] = &[
             (
                 1,
                 Rename {
-                    name: "a",
+                    name: b"a",
                     new_parent: 1,
-                    new_name: "a",
+                    new_name: b"a",
                 },
             ),
             FOUND,
@@ -202,9 +209,9 @@ const REPLACED: &[Story] = &[
             (
                 1,
                 Rename {
-                    name: "a",
+                    name: b"a",
                     new_parent: 1,
-                    new_name: "b",
+                    new_name: b"b",
                 },
             ),
             READ,
@@ -225,7 +232,7 @@ const REPLACED: &[Story] = &[
     Story {
         says: "across folders, and then the name is removed and made anew: each handle leads to its file",
         asks: &[
-            (1, Lookup { name: "d" }),
+            (1, Lookup { name: b"d" }),
             (2, CREATE_X),
             (
                 3,
@@ -238,9 +245,9 @@ const REPLACED: &[Story] = &[
             (
                 1,
                 Rename {
-                    name: "a",
+                    name: b"a",
                     new_parent: 2,
-                    new_name: "x",
+                    new_name: b"x",
                 },
             ),
             (
@@ -251,7 +258,7 @@ const REPLACED: &[Story] = &[
                     size: 10,
                 },
             ),
-            (2, Unlink { name: "x" }),
+            (2, Unlink { name: b"x" }),
             (2, CREATE_X),
             (
                 4,

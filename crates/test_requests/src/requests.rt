@@ -20,43 +20,43 @@ pub const NOTHING_NEW: NewAttributes = NewAttributes {
 };
 
 pub const MAKE_M: Operation<'static> = MakeDir {
-    name: "m",
+    name: b"m",
     mode: 0,
     umask: 0,
 };
 
 pub const MAKE_N: Operation<'static> = MakeDir {
-    name: "n",
+    name: b"n",
     mode: 0,
     umask: 0,
 };
 
 pub const MAKE_D: Operation<'static> = MakeDir {
-    name: "d",
+    name: b"d",
     mode: 0,
     umask: 0,
 };
 
 pub const MAKE_A: Operation<'static> = MakeDir {
-    name: "a",
+    name: b"a",
     mode: 0,
     umask: 0,
 };
 
 pub const MAKE_B: Operation<'static> = MakeDir {
-    name: "b",
+    name: b"b",
     mode: 0,
     umask: 0,
 };
 
 pub const MAKE_X: Operation<'static> = MakeDir {
-    name: "x",
+    name: b"x",
     mode: 0,
     umask: 0,
 };
 
 pub const MAKE_C: Operation<'static> = MakeDir {
-    name: "c",
+    name: b"c",
     mode: 0,
     umask: 0,
 };
@@ -65,34 +65,34 @@ pub const MAKE_C: Operation<'static> = MakeDir {
 pub const LINK_L: (u64, Operation<'static>) = (
     1,
     MakeLink {
-        name: "l",
+        name: b"l",
         text: b"d/none",
     },
 );
 
 pub const MAKE_RESERVED: Operation<'static> = MakeDir {
-    name: ".fuse_hiddenx",
+    name: b".fuse_hiddenx",
     mode: 0,
     umask: 0,
 };
 
 /// Made for reading and writing.
 pub const CREATE_A: Operation<'static> = Create {
-    name: "a",
+    name: b"a",
     flags: 2,
     mode: 0,
     umask: 0,
 };
 
 pub const CREATE_N: Operation<'static> = Create {
-    name: "n",
+    name: b"n",
     flags: 2,
     mode: 0,
     umask: 0,
 };
 
 pub const CREATE_X: Operation<'static> = Create {
-    name: "x",
+    name: b"x",
     flags: 2,
     mode: 0,
     umask: 0,

@@ -15,7 +15,7 @@ use std::sync::Wait;
 use std::test::Fail;
 use table::Limits;
 use test_support::{Client, FIXED, PlainFolders, serve_client};
-use wire::{Operation, Request, encode_request};
+use wire::{Caller, Operation, Request, encode_request};
 
 /// A session with the sample names.
 #[derive(Clone, Copy)]
@@ -31,6 +31,8 @@ pub struct Story<'a> {
     pub files: &'a [&'a [&'a str]],
     /// The requests and their nodes, in order. The requests are numbered from 1.
     pub asks: &'a [(u64, Operation<'a>)],
+    /// Who makes them.
+    pub caller: Caller,
     /// Calls of the tree that fail, counted from 1.
     pub faults: &'a [(u64, PlannedFault)],
     /// The reply to each request.
@@ -60,6 +62,7 @@ pub const NOTHING: Story = Story {
     open_files: 4096,
     files: &[],
     asks: &[],
+    caller: Caller { uid: 0, gid: 0 },
     faults: &[],
     replies: &[],
     after: &[],
@@ -108,6 +111,7 @@ fn init_request_of(alloc: Global) -> Result<Vec<u8>, AllocError> {
     let request = Request {
         unique: 0,
         node: 0,
+        caller: Caller { uid: 0, gid: 0 },
         operation: Operation::Init {
             major: 7,
             minor: 31,
@@ -120,15 +124,16 @@ fn init_request_of(alloc: Global) -> Result<Vec<u8>, AllocError> {
     Ok(frame)
 }
 
-fn frames_of(alloc: Global, asks: &[(u64, Operation<'_>)]) -> Result<Vec<Vec<u8>>, AllocError> {
+fn frames_of(alloc: Global, story: &Story) -> Result<Vec<Vec<u8>>, AllocError> {
     let mut frames = Vec::new(alloc);
     frames.push(init_request_of(alloc)?)?;
     let mut unique = 0u64;
-    for (node, operation) in asks {
+    for (node, operation) in story.asks {
         unique = unique.saturating_add(1);
         let request = Request {
             unique,
             node: *node,
+            caller: story.caller,
             operation: *operation,
         };
         let mut frame = Vec::new(alloc);
@@ -141,7 +146,7 @@ fn frames_of(alloc: Global, asks: &[(u64, Operation<'_>)]) -> Result<Vec<Vec<u8>
 fn path_of(alloc: Global, names: &[&str]) -> Result<Path, AllocError> {
     let mut path = Vec::new(alloc);
     for name in names {
-        path.push(Name::copy_of(alloc, name)?)?;
+        path.push(Name::from_text(alloc, name)?)?;
     }
     Path::from_names(path)
 }
@@ -211,7 +216,10 @@ fn are_all(alloc: Global, tree: &mut MemTree, names: &[&str]) -> Result<bool, Al
     };
     let mut found = 0usize;
     for child in children.as_slice() {
-        if names.contains(&child.name.as_str()) {
+        if names
+            .iter()
+            .any(|name| name.as_bytes() == child.name.as_bytes())
+        {
             found = found.saturating_add(1);
         }
     }
@@ -234,7 +242,7 @@ fn tell_on<H: Wait + RandomSource, D: Folders + Drop>(
         calls: tree_of(alloc, story)?,
         dirs,
     };
-    let mut client = Client::new(alloc, frames_of(alloc, story.asks)?, 0);
+    let mut client = Client::new(alloc, frames_of(alloc, story)?, 0);
     let limits = Limits {
         nodes: story.nodes,
         files: story.open_files,

@@ -5,6 +5,8 @@
 #[cfg(test)]
 mod bad_ends;
 #[cfg(test)]
+mod byte_names;
+#[cfg(test)]
 mod devices;
 #[cfg(test)]
 mod frames;
@@ -18,6 +20,8 @@ mod host_attributes;
 mod links;
 #[cfg(test)]
 mod meetings;
+#[cfg(test)]
+mod owners;
 #[cfg(test)]
 mod pipes;
 #[cfg(test)]

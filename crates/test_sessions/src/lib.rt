@@ -34,6 +34,8 @@ mod open_folders;
 #[cfg(test)]
 mod recorded;
 #[cfg(test)]
+mod refused_words;
+#[cfg(test)]
 mod row;
 #[cfg(test)]
 mod runs;

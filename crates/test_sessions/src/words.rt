@@ -6,17 +6,18 @@ use mirrord_server::{Bounds, Terms, Unserved};
 use std::alloc::Global;
 use std::test::Fail;
 use table::Counts;
-use terms::{AttributeSource, Kinds, Settings};
+use terms::{AttributeSource, Kinds, Names, Settings};
 
 /// A command line, and what it asks for.
 #[derive(Clone, Copy)]
 struct Asked(&'static [&'static str], Options<'static>);
 
-/// Files and folders alone, which belong to user 0 and group 0, in a table that may grow as far as it does by default.
+/// Files and folders alone, whose names are texts, which belong to user 0 and group 0, in a table that may grow as far as it does by default.
 const DEFAULT: Terms = Terms {
     settings: Settings {
         attributes: AttributeSource::Fixed { uid: 0, gid: 0 },
         kinds: Kinds::Plain,
+        names: Names::Text,
     },
     bounds: Bounds {
         nodes: 65_536,
@@ -35,6 +36,7 @@ const MOST: Terms = Terms {
             gid: 7,
         },
         kinds: Kinds::Plain,
+        names: Names::Text,
     },
     bounds: Bounds {
         nodes: 16_777_216,
@@ -50,6 +52,7 @@ const LEAST: Terms = Terms {
     settings: Settings {
         attributes: AttributeSource::Fixed { uid: 0, gid: 1 },
         kinds: Kinds::Plain,
+        names: Names::Text,
     },
     bounds: Bounds {
         nodes: 2,
@@ -192,11 +195,13 @@ fn help_and_version(rt: HostRuntime) -> Result<(), Fail> {
 // A command line that is not understood ends with status 2, and a message on standard error.
 #[test]
 fn bad_command_lines(rt: HostRuntime) -> Result<(), Fail> {
-    let bad: [&[&str]; 18] = [
+    let bad: [&[&str]; 20] = [
         &["mirrord"],
         &["mirrord", "mount"],
         &["mirrord", "hex", "--smaple"],
         &["mirrord", "hex", "a"],
+        &["mirrord", "hex", "--names", "text"],
+        &["mirrord", "pipe", "--root", "/", "--names"],
         &["mirrord", "pipe"],
         &["mirrord", "pipe", "--root"],
         &["mirrord", "pipe", "--root", "/", "--uid", "4294967296"],

@@ -15,7 +15,7 @@ use std::marker::Brand;
 use std::random::RandomSource;
 use std::sync::Wait;
 use table::{Limits, Seeds, Table};
-use terms::{AttributeSource, Kinds};
+use terms::{AttributeSource, Kinds, Names};
 
 /// Sends its frames one after another, and takes all replies except one. It records the traffic. In its frames and
 /// replies, handles of open folders are given by their positions (`Handles`).
@@ -137,24 +137,28 @@ impl Link for Client {
 pub const FIXED: Settings = Settings {
     attributes: AttributeSource::Fixed { uid: 0, gid: 0 },
     kinds: Kinds::Plain,
+    names: Names::Text,
 };
 
 /// The same of all kinds of files.
 pub const ALL: Settings = Settings {
     attributes: AttributeSource::Fixed { uid: 0, gid: 0 },
     kinds: Kinds::All,
+    names: Names::Text,
 };
 
 /// Attributes of the host, of files and folders alone.
 pub const OF_HOST: Settings = Settings {
     attributes: AttributeSource::Host,
     kinds: Kinds::Plain,
+    names: Names::Text,
 };
 
 /// The same of all kinds of files.
 pub const ALL_OF_HOST: Settings = Settings {
     attributes: AttributeSource::Host,
     kinds: Kinds::All,
+    names: Names::Text,
 };
 
 /// How a session ended, and the totals of its share.

@@ -90,7 +90,7 @@ fn node(number: u64, place: Place, count: u64) -> Node {
 fn nodes(alloc: Global) -> Result<Nodes, AllocError> {
     let key = Key {
         parent: ROOT,
-        name: Name::copy_of(alloc, "a")?,
+        name: Name::from_text(alloc, "a")?,
     };
     let mut nodes = Nodes::new(alloc);
     nodes.add(node(ROOT, Place::Root, 0))?;

@@ -1,5 +1,6 @@
 //! Looking up a node, a name or a handle in an image.
 
+use std::str;
 use table::{Access, OpenFile};
 use table_image::Image;
 use tree::{Node, Place};
@@ -47,10 +48,10 @@ pub fn is_cut(image: &Image, number: u64) -> bool {
     }
 }
 
-/// The place of a node with a name: its parent and its name.
+/// The place of a node with a name: its parent and its name, which is a text.
 pub fn place_of(node: &Node) -> Option<(u64, &str)> {
     match &node.place {
-        Place::Named(key) => Some((key.parent, key.name.as_str())),
+        Place::Named(key) => Some((key.parent, str::from_utf8(key.name.as_bytes()).ok()?)),
         _ => None,
     }
 }

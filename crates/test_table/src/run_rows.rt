@@ -8,13 +8,13 @@ use crate::story::{Asks, DEFAULT, Flying, Living, Outcome, ROOT, Reply, Step, Su
 use crate::teller::{Play, misgathered, mistold, play_new};
 use crate::under_test::{TestTable, outcome_of, told_by, want_of};
 use errno::ESTALE;
+use laws::table_runs::{self, CallResult as CallTold, Pending, Started, TableCall};
 use ledger::Ledgers;
 use std::alloc::{AllocError, Global};
 use std::random::RandomSource;
 use std::test::Fail;
 use table::Outcome as TableOutcome;
 use table_image::ImageStage::Answered;
-use table_runs::{CallResult as CallTold, Pending, Started, TableCall};
 
 /// A call on what is pending.
 #[derive(Clone, Copy)]

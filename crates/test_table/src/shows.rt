@@ -15,7 +15,7 @@ pub fn path_of(alloc: Global, text: &str) -> Result<Path, AllocError> {
         return Path::from_names(names);
     }
     for name in text.split('/') {
-        names.push(Name::copy_of(alloc, name)?)?;
+        names.push(Name::from_text(alloc, name)?)?;
     }
     Path::from_names(names)
 }
@@ -44,7 +44,7 @@ fn is_at(place: &Place, spot: Spot) -> bool {
     match (place, spot) {
         (Place::Root, Spot::Root) | (Place::Cut, Spot::Cut) => true,
         (Place::Named(key), Spot::At(parent, name) | Spot::Hidden(parent, name)) => {
-            key.parent == parent && key.name.as_str() == name
+            key.parent == parent && key.name.as_bytes() == name.as_bytes()
         }
         _ => false,
     }

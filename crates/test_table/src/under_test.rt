@@ -48,37 +48,37 @@ pub fn want_of(alloc: Global, asks: Asks) -> Result<Want, AllocError> {
         },
         Asks::Name(parent, name) => Want::Name {
             parent,
-            name: Name::copy_of(alloc, name)?,
+            name: Name::from_text(alloc, name)?,
         },
         Asks::Remove(parent, name) => Want::Remove {
             parent,
-            name: Name::copy_of(alloc, name)?,
+            name: Name::from_text(alloc, name)?,
             may_hide: false,
         },
         Asks::Unlink(parent, name) => Want::Remove {
             parent,
-            name: Name::copy_of(alloc, name)?,
+            name: Name::from_text(alloc, name)?,
             may_hide: true,
         },
         Asks::Move(parent, name, new_parent, new_name) => Want::Move {
             parent,
-            name: Name::copy_of(alloc, name)?,
+            name: Name::from_text(alloc, name)?,
             new_parent,
-            new_name: Name::copy_of(alloc, new_name)?,
+            new_name: Name::from_text(alloc, new_name)?,
             keep: false,
         },
         Asks::Keep(parent, name, new_parent, new_name) => Want::Move {
             parent,
-            name: Name::copy_of(alloc, name)?,
+            name: Name::from_text(alloc, name)?,
             new_parent,
-            new_name: Name::copy_of(alloc, new_name)?,
+            new_name: Name::from_text(alloc, new_name)?,
             keep: true,
         },
         Asks::Exchange(parent, name, new_parent, new_name) => Want::Exchange {
             parent,
-            name: Name::copy_of(alloc, name)?,
+            name: Name::from_text(alloc, name)?,
             new_parent,
-            new_name: Name::copy_of(alloc, new_name)?,
+            new_name: Name::from_text(alloc, new_name)?,
         },
         Asks::Page(folder, names) => Want::Page {
             folder,
@@ -97,14 +97,14 @@ pub fn want_of(alloc: Global, asks: Asks) -> Result<Want, AllocError> {
         },
         Asks::Create(parent, name) => Want::Create {
             parent,
-            name: Name::copy_of(alloc, name)?,
+            name: Name::from_text(alloc, name)?,
             access: Access::Writing,
         },
         Asks::Release(number, fh) => Want::Release { number, fh },
         Asks::Link(number, parent, name) => Want::Link {
             number,
             parent,
-            name: Name::copy_of(alloc, name)?,
+            name: Name::from_text(alloc, name)?,
         },
     })
 }
@@ -112,7 +112,7 @@ pub fn want_of(alloc: Global, asks: Asks) -> Result<Want, AllocError> {
 fn names_of(alloc: Global, names: &[&str]) -> Result<Names, AllocError> {
     let mut copies = Vec::new(alloc);
     for name in names {
-        copies.push(Name::copy_of(alloc, name)?)?;
+        copies.push(Name::from_text(alloc, name)?)?;
     }
     Ok(Names::from_vec(copies))
 }

@@ -1,4 +1,5 @@
-//! The table is compared with one over plain lists: both are driven by the same calls. This crate has only tests.
+//! The table is compared with one over plain lists: both are driven by the same calls. And the parts below it: paths, hidden names, the
+//! ledger and its book, the tree of nodes, open files, requests in flight and images. This crate has only tests.
 #![tactic(auto)]
 
 #[cfg(test)]
@@ -13,6 +14,12 @@ mod both;
 mod both_runs;
 #[cfg(test)]
 mod draws;
+#[cfg(test)]
+mod handle_rows;
+#[cfg(test)]
+mod image_rows;
+#[cfg(test)]
+mod ledger_rows;
 #[cfg(test)]
 mod link_rows;
 #[cfg(test)]
@@ -32,11 +39,23 @@ mod list_table;
 #[cfg(test)]
 mod list_teller;
 #[cfg(test)]
+mod name_rows;
+#[cfg(test)]
 mod pairs;
+#[cfg(test)]
+mod path_rows;
+#[cfg(test)]
+mod pin_rows;
 #[cfg(test)]
 mod runs;
 #[cfg(test)]
+mod sketch;
+#[cfg(test)]
+mod spelling;
+#[cfg(test)]
 mod tallies;
+#[cfg(test)]
+mod tree_rows;
 #[cfg(test)]
 mod wants;
 #[cfg(test)]

@@ -25,7 +25,7 @@ pub struct Pairs {
 fn hidden_name(alloc: Global, number: u64, counter: u32) -> Result<Name, AllocError> {
     let low = number % 0x1_0000_0000;
     let text = format!(in alloc; ".fuse_hidden{low:08x}{counter:08x}")?;
-    Name::new(text)
+    Name::from_text(alloc, text.as_str())
 }
 
 fn plain_name(alloc: Global, letter: char, bytes: usize) -> Result<Name, AllocError> {
@@ -33,7 +33,7 @@ fn plain_name(alloc: Global, letter: char, bytes: usize) -> Result<Name, AllocEr
     for _byte in 0..bytes {
         text.push(letter)?;
     }
-    Name::new(text)
+    Name::from_text(alloc, text.as_str())
 }
 
 impl Pairs {

@@ -10,14 +10,14 @@ use wire::Operation::{Destroy, Forget, Lookup, Open, Unlink};
 
 /// Eight entries of one node.
 const EIGHT: &[(u64, Operation<'static>)] = &[
-    (1, Lookup { name: "a" }),
-    (1, Lookup { name: "a" }),
-    (1, Lookup { name: "a" }),
-    (1, Lookup { name: "a" }),
-    (1, Lookup { name: "a" }),
-    (1, Lookup { name: "a" }),
-    (1, Lookup { name: "a" }),
-    (1, Lookup { name: "a" }),
+    (1, Lookup { name: b"a" }),
+    (1, Lookup { name: b"a" }),
+    (1, Lookup { name: b"a" }),
+    (1, Lookup { name: b"a" }),
+    (1, Lookup { name: b"a" }),
+    (1, Lookup { name: b"a" }),
+    (1, Lookup { name: b"a" }),
+    (1, Lookup { name: b"a" }),
 ];
 
 /// INIT and eight entries, by one worker.
@@ -79,7 +79,7 @@ fn a_session_may_be_long(rt: HostRuntime) -> Result<(), Fail> {
     let long = Story {
         says: "1,100 entries by two workers",
         workers: 2,
-        asks: &[(1, Lookup { name: "a" }); 1_100],
+        asks: &[(1, Lookup { name: b"a" }); 1_100],
         offers: 1_101,
         taken: 1_101,
         totals: Some((1_100, 0, 0)),
@@ -119,16 +119,16 @@ fn none_and_five_serve_nobody(rt: HostRuntime) -> Result<(), Fail> {
 
 /// Eight entries, DESTROY, and one more request.
 const LAST_JOB: &[(u64, Operation<'static>)] = &[
-    (1, Lookup { name: "a" }),
-    (1, Lookup { name: "a" }),
-    (1, Lookup { name: "a" }),
-    (1, Lookup { name: "a" }),
-    (1, Lookup { name: "a" }),
-    (1, Lookup { name: "a" }),
-    (1, Lookup { name: "a" }),
-    (1, Lookup { name: "a" }),
+    (1, Lookup { name: b"a" }),
+    (1, Lookup { name: b"a" }),
+    (1, Lookup { name: b"a" }),
+    (1, Lookup { name: b"a" }),
+    (1, Lookup { name: b"a" }),
+    (1, Lookup { name: b"a" }),
+    (1, Lookup { name: b"a" }),
+    (1, Lookup { name: b"a" }),
     (0, Destroy),
-    (1, Lookup { name: "a" }),
+    (1, Lookup { name: b"a" }),
 ];
 
 /// The reply to DESTROY is the last, whatever was queued before it.
@@ -186,7 +186,7 @@ const ENDS: &[Story] = &[
     },
     Story {
         says: "an entry that is forgotten",
-        asks: &[(1, Lookup { name: "a" }), (2, Forget { nlookup: 1 })],
+        asks: &[(1, Lookup { name: b"a" }), (2, Forget { nlookup: 1 })],
         offers: 2,
         taken: 3,
         totals: Some((1, 0, 1)),
@@ -195,9 +195,9 @@ const ENDS: &[Story] = &[
     Story {
         says: "an open file that is removed, whose hidden name goes at the end",
         asks: &[
-            (1, Lookup { name: "a" }),
+            (1, Lookup { name: b"a" }),
             (2, Open { flags: 0 }),
-            (1, Unlink { name: "a" }),
+            (1, Unlink { name: b"a" }),
         ],
         offers: 4,
         taken: 4,
@@ -237,10 +237,10 @@ fn each_reply_is_declined_in_turn(rt: HostRuntime) -> Result<(), Fail> {
 const FATES: Story = Story {
     says: "taken, taken, not taken, broken",
     asks: &[
-        (1, Lookup { name: "a" }),
-        (1, Lookup { name: "a" }),
-        (1, Lookup { name: "a" }),
-        (1, Lookup { name: "a" }),
+        (1, Lookup { name: b"a" }),
+        (1, Lookup { name: b"a" }),
+        (1, Lookup { name: b"a" }),
+        (1, Lookup { name: b"a" }),
     ],
     fates: Fates::InTurn(&[Sent::Taken, Sent::Taken, Sent::Untaken, Sent::Broken]),
     end: SessionEnd::LinkBroken,

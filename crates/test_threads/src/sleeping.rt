@@ -9,8 +9,23 @@ fn a_sleeper_that_watches_looks_by_itself(rt: HostRuntime) -> Result<(), Fail> {
     let sleepers = Sleepers::new();
     for number in 0..4 {
         sleepers.lie_down(number);
-        sleepers.sleep(&rt, number, true);
+        assert!(rt; sleepers.begin_watch());
+        assert!(rt; !sleepers.begin_watch());
+        assert!(rt; !sleepers.nap(&rt, number));
+        sleepers.end_watch();
         assert!(rt; !sleepers.is_watched());
+    }
+    Ok(())
+}
+
+// Who wakes it may come before it naps.
+#[test]
+fn a_sleeper_that_watches_is_woken(rt: HostRuntime) -> Result<(), Fail> {
+    let sleepers = Sleepers::new();
+    for number in 0..4 {
+        sleepers.lie_down(number);
+        sleepers.wake(1);
+        assert!(rt; sleepers.nap(&rt, number));
     }
     Ok(())
 }
@@ -25,7 +40,7 @@ fn no_wake_up_is_lost(rt: HostRuntime) -> Result<(), Fail> {
     sleepers.wake(3);
     sleepers.wake(9);
     for number in 0..4 {
-        sleepers.sleep(&rt, number, false);
+        sleepers.sleep(&rt, number);
     }
     Ok(())
 }
@@ -37,7 +52,7 @@ fn one_is_called_to_look(rt: HostRuntime) -> Result<(), Fail> {
     for number in 0..4 {
         sleepers.lie_down(number);
         sleepers.call_watch();
-        sleepers.sleep(&rt, number, false);
+        sleepers.sleep(&rt, number);
     }
     Ok(())
 }

@@ -56,7 +56,7 @@ const MANY: Story = Story {
     says: "a hundred entries whose replies are taken slowly",
     workers: 4,
     comes: Comes::Together,
-    asks: &[(1, Lookup { name: "a" }); 100],
+    asks: &[(1, Lookup { name: b"a" }); 100],
     rest: &[],
     fates: Fates::Taken,
     end: SessionEnd::Closed { rest: 0 },

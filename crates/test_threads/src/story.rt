@@ -7,8 +7,8 @@ use paths::{Name, Path};
 use std::alloc::{AllocError, Global};
 use std::mem;
 use std::sync::{Arc, Mutex, Wait};
-use terms::{AttributeSource, Kinds};
-use wire::{Operation, Request, encode_request};
+use terms::{AttributeSource, Kinds, Names};
+use wire::{Caller, Operation, Request, encode_request};
 
 /// How the frames arrive.
 #[derive(Clone, Copy, PartialEq, Eq)]
@@ -59,6 +59,7 @@ pub enum Shows {
 pub const SETTINGS: Settings = Settings {
     attributes: AttributeSource::Fixed { uid: 0, gid: 0 },
     kinds: Kinds::Plain,
+    names: Names::Text,
 };
 
 const INIT: (u64, Operation<'static>) = (
@@ -80,6 +81,7 @@ fn put_request(
     let request = Request {
         unique,
         node,
+        caller: Caller { uid: 0, gid: 0 },
         operation,
     };
     encode_request(&request, out)?;
@@ -113,7 +115,7 @@ pub fn pieces_of(
 /// The path of the file `a`.
 pub fn path_of_file(alloc: Global) -> Result<Path, AllocError> {
     let mut names = Vec::new(alloc);
-    names.push(Name::copy_of(alloc, "a")?)?;
+    names.push(Name::from_text(alloc, "a")?)?;
     Path::from_names(names)
 }
 

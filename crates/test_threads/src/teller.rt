@@ -122,7 +122,7 @@ fn shown_by<C: Calls>(alloc: Global, calls: &mut C) -> Result<Shows, AllocError>
     let Answer::Stat { size: 3, .. } = calls.call(Call::Stat(&path_of_file(alloc)?)) else {
         return Ok(Shows::Other);
     };
-    Ok(if name.as_str() == "a" {
+    Ok(if name.as_bytes() == b"a".as_slice() {
         Shows::File
     } else {
         Shows::Other

@@ -30,7 +30,7 @@ use wire::Operation;
 use wire::Operation::Lookup;
 
 /// A LOOKUP, after INIT.
-const ONE: &[(u64, Operation<'static>)] = &[(1, Lookup { name: "a" })];
+const ONE: &[(u64, Operation<'static>)] = &[(1, Lookup { name: b"a" })];
 
 /// The link of a client that asks for this.
 fn asks<H: Wait + Clone + Drop>(rt: &H, alloc: Global) -> Result<Asks<H>, AllocError> {

@@ -29,9 +29,9 @@ use wire::Operation::Lookup;
 
 /// Three LOOKUPs, after INIT.
 const THREE: &[(u64, Operation<'static>)] = &[
-    (1, Lookup { name: "a" }),
-    (1, Lookup { name: "a" }),
-    (1, Lookup { name: "a" }),
+    (1, Lookup { name: b"a" }),
+    (1, Lookup { name: b"a" }),
+    (1, Lookup { name: b"a" }),
 ];
 
 /// The reply to INIT and the first entry are taken. The link breaks at the second entry.

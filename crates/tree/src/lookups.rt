@@ -21,8 +21,8 @@ use std::alloc::{AllocError, Global};
 /// No path has more bytes.
 const PATH_BYTES: usize = 4096;
 
-/// No path has more names than this if none of them is empty.
-const PATH_NAMES: usize = PATH_BYTES / 2;
+/// Most paths have no more names than this. Counting those of a path first would walk up to the root once more.
+const MOST_DEPTHS: usize = 16;
 
 /// The node with that number.
 pub(crate) fn node_in(nodes: &Slab<Linked<Node>>, number: u64) -> Option<&Node>
@@ -92,33 +92,13 @@ pub(crate) fn expect_path(nodes: &Slab<Linked<Node>>, number: u64) -> Result<(),
     }
 }
 
-/// How many names lead from the root to the node, at most as many as a path has.
-fn depth_of(nodes: &Slab<Linked<Node>>, number: u64) -> usize
-    ensures { result ≤ 2048 }
-{
-    let mut current = number;
-    for depth in 0..PATH_NAMES {
-        match parent_of(nodes, current) {
-            Some(parent) => current = parent,
-            None => return depth,
-        }
-    }
-    PATH_NAMES
-}
-
-/// An empty list with room for the names of the node's path and for `more` names, so that a path is collected with one
-/// allocation.
-pub(crate) fn room_for_path(
-    alloc: Global,
-    nodes: &Slab<Linked<Node>>,
-    number: u64,
-    more: usize,
-) -> Result<Vec<Name>, TreeFault>
-    requires { more ≤ 4096 }
+/// An empty list with room for the names of most paths. The path's own list is made of it, and has no more room than it
+/// needs.
+pub(crate) fn room_for_path(alloc: Global) -> Result<Vec<Name>, TreeFault>
     ensures ok { IfOk result (λ names. names.items ≡ []) }
     ensures err { IfErr result (λ fault. fault ≡ TreeFault.Memory) }
 {
-    match Vec::with_capacity(alloc, depth_of(nodes, number) + more) {
+    match Vec::with_capacity(alloc, MOST_DEPTHS) {
         Ok(names) => Ok(names),
         Err(_) => Err(TreeFault::Memory),
     }

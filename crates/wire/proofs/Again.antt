@@ -4,9 +4,11 @@ use Rattle.std.proofs.lemmas.List.{drop_at, take_at, length-take, length-append,
 use Rattle.std.proofs.Math.Nat.{div-zero, mul-div_cancel_left}
 use Rattle.byteorder.specs.Endian.{little_number, little_bytes}
 use Rattle.byteorder.specs.Numbers.{little_number-reads_back, little_from-lt, length-bytes_low_first}
+use Rattle.terms.specs.declared.settings.Names.{Names}
+use Rattle.wire.specs.declared.request.Caller.{Caller}
 use Rattle.wire.specs.declared.request.Request.{Request}
 use Rattle.wire.specs.Fields.{Field, number, unread, raw, text, link_text, counted, limited, anything, Value, num, name, bytes, Spells, CanTell, IsBytes}
-use Rattle.wire.specs.Requests.{layout, opcode_of, values_of, opcode_in, body_in, IsLaidOut, IsRequest}
+use Rattle.wire.specs.Requests.{layout, opcode_of, values_of, opcode_in, caller_in, body_in, IsLaidOut, IsRequest}
 use Rattle.wire.proofs.Lengths.{length-zeros}
 use Rattle.wire.specs.Written.{le, zeros, written, written_by, operation_bytes, request_bytes}
 
@@ -95,10 +97,15 @@ laid_again : (o : Option (List Field)) (values : List Value) (body : List ℕ) �
 laid_again None values body fits s = absurd s
 laid_again (Some fields) values body fits s = (written_spelled fields values (told_again fields values body fits s), written_len fields values body s)
 
-pub request_written : (frame : List ℕ) (r : Request) → IsBytes frame → IsRequest frame r → IsRequest (request_bytes r) r
+same_caller : (a b : Caller) → a.uid ≡ b.uid → a.gid ≡ b.gid → a ≡ b
+same_caller a b user group = λ i. record { uid = user i; gid = group i }
+
+pub request_written : (names : Names) (frame : List ℕ) (r : Request) → IsBytes frame → IsRequest names frame r → IsRequest names (request_bytes r) r
 unfolding request_bytes le zeros
-request_written frame r fits q =
+request_written names frame r fits q =
     let opcode = opcode_of r.operation in
+    let uid = r.caller.uid in
+    let gid = r.caller.gid in
     let body = operation_bytes r.operation in
     let again = laid_again (layout opcode) (values_of r.operation) (body_in frame) (IsBytes-drop 40 frame fits) (rw q.opcode q.body) in
     let long = q.framed.long in
@@ -108,16 +115,23 @@ request_written frame r fits q =
     let two : r.unique < 256 ^ 8 = rw q.unique (little_from-lt 0 8 (drop 8 frame) (IsBytes-drop 8 frame fits)) in
     let three : r.node < 256 ^ 8 = rw q.node (little_from-lt 0 8 (drop 16 frame) (IsBytes-drop 16 frame fits)) in
     let four : 40 + length body < 256 ^ 4 = omega arith in
-    let op : opcode ≡ opcode_in (request_bytes r) = sym (little_number-reads_back 4 opcode (little_bytes 8 r.unique ++ (little_bytes 8 r.node ++ (zeros 16 ++ body))) one) in
+    let five : uid < 256 ^ 4 = rw q.caller (little_from-lt 0 4 (drop 24 frame) (IsBytes-drop 24 frame fits)) in
+    let six : gid < 256 ^ 4 = rw q.caller (little_from-lt 0 4 (drop 28 frame) (IsBytes-drop 28 frame fits)) in
+    let rest = zeros 8 ++ body in
+    let owned = little_bytes 4 uid ++ (little_bytes 4 gid ++ rest) in
+    let op : opcode ≡ opcode_in (request_bytes r) = sym (little_number-reads_back 4 opcode (little_bytes 8 r.unique ++ (little_bytes 8 r.node ++ owned)) one) in
+    let user : uid ≡ (caller_in (request_bytes r)).uid = sym (little_number-reads_back 4 uid (little_bytes 4 gid ++ rest) five) in
+    let group : gid ≡ (caller_in (request_bytes r)).gid = sym (little_number-reads_back 4 gid rest six) in
     record {
       framed = record {
         long = omega arith;
         short = omega arith;
-        len = little_number-reads_back 4 (40 + length body) (little_bytes 4 opcode ++ (little_bytes 8 r.unique ++ (little_bytes 8 r.node ++ (zeros 16 ++ body)))) four ∙ omega arith;
+        len = little_number-reads_back 4 (40 + length body) (little_bytes 4 opcode ++ (little_bytes 8 r.unique ++ (little_bytes 8 r.node ++ owned))) four ∙ omega arith;
       };
       opcode = op;
-      unique = sym (little_number-reads_back 8 r.unique (little_bytes 8 r.node ++ (zeros 16 ++ body)) two);
-      node = sym (little_number-reads_back 8 r.node (zeros 16 ++ body) three);
+      unique = sym (little_number-reads_back 8 r.unique (little_bytes 8 r.node ++ owned) two);
+      node = sym (little_number-reads_back 8 r.node owned three);
+      caller = same_caller r.caller (caller_in (request_bytes r)) user group;
       body = subst (λ k. IsLaidOut (layout k) (values_of r.operation) (body_in (request_bytes r))) op again.0;
-      names = q.names;
+      lawful = q.lawful;
     }

@@ -3,8 +3,11 @@ use Rattle.std.specs.Prelude.{◌≡◌, ℕ, ◌+◌, ◌*◌, List, [], ◌∷
 use Rattle.std.specs.Str.{is_utf8, bytes_eq}
 use Rattle.std.specs.List.{position, list_any}
 use Rattle.byteorder.specs.Endian.{little_number}
+use Rattle.terms.specs.declared.settings.Names.{Names}
+use Rattle.terms.specs.declared.settings.Names.TheVariants as names_of
 use Rattle.wire.specs.declared.fault.WireFault.{WireFault}
 use Rattle.wire.specs.declared.fault.WireFault.TheVariants.{Opcode, Body, NameLong, NameBad, Frame}
+use Rattle.wire.specs.declared.request.Caller.{Caller}
 use Rattle.wire.specs.declared.header.Header.{Header}
 use Rattle.wire.specs.declared.request.TheConstants.{HEADER_LEN, MAX_FRAME_LEN}
 use Rattle.wire.specs.declared.request.Request.{Request}
@@ -70,30 +73,28 @@ values_at (anything ∷ _ ∷ _) body = Err Body
 
 -- ---- names
 
-abbrev pub utf8_at : List ℕ → Result (List ℕ) WireFault
-utf8_at t = if is_utf8 t then Ok t else Err NameBad
+abbrev pub spelled_at : Names → List ℕ → Result (List ℕ) WireFault
+spelled_at names_of.Text t = if is_utf8 t then Ok t else Err NameBad
+spelled_at names_of.Bytes t = Ok t
 
-abbrev pub name_at : List ℕ → Result (List ℕ) WireFault
-name_at t =
+abbrev pub name_at : Names → List ℕ → Result (List ℕ) WireFault
+name_at names t =
     if length t == 0 then Err NameBad
     else (if nat_lt 255 (length t) then Err NameLong
-    else utf8_at t >>= λ u. (if bytes_eq u (codes ".") || bytes_eq u (codes "..") || list_any (λ b. b == 47) u then Err NameBad else Ok u))
+    else spelled_at names t >>= λ u. (if bytes_eq u (codes ".") || bytes_eq u (codes "..") || list_any (λ b. b == 47) u then Err NameBad else Ok u))
 
 -- each name in turn
-abbrev pub named : List Value → Result Bool WireFault
-named [] = Ok true
-named (name t ∷ values) = name_at t >>= λ _. named values
-named (num _ ∷ values) = named values
-named (bytes _ ∷ values) = named values
+abbrev pub named : Names → List Value → Result Bool WireFault
+named names [] = Ok true
+named names (name t ∷ values) = name_at names t >>= λ _. named names values
+named names (num _ ∷ values) = named names values
+named names (bytes _ ∷ values) = named names values
 
 -- ---- operations and frames
 
-abbrev pub fields_at : List Field → List ℕ → Result (List Value) WireFault
-fields_at fields body = values_at fields body >>= λ values. named values >>= λ _. Ok values
-
 abbrev pub operation_by : Option (List Field) → ℕ → List ℕ → Result (ℕ × List Value) WireFault
 operation_by None opcode body = Err Opcode
-operation_by (Some fields) opcode body = fields_at fields body >>= λ values. Ok (opcode, values)
+operation_by (Some fields) opcode body = values_at fields body >>= λ values. Ok (opcode, values)
 
 unfoldable pub operation_at : ℕ → List ℕ → Result (ℕ × List Value) WireFault
 operation_at opcode body = operation_by (layout opcode) opcode body
@@ -110,8 +111,12 @@ is_framed frame = nat_le HEADER_LEN (length frame) && nat_le (length frame) MAX_
 abbrev pub parts_at : List ℕ → Result (Header × List ℕ) WireFault
 parts_at frame = if is_framed frame then Ok (header_in frame, body_in frame) else Err Frame
 
-unfoldable pub request_at : List ℕ → Result (ℕ × ℕ × (ℕ × List Value)) WireFault
-request_at frame = parts_at frame >>= λ parts. operation_at parts.0.opcode parts.1 >>= λ x. Ok (parts.0.unique, parts.0.node, x)
+abbrev pub caller_of : Header → Caller
+caller_of header = record { uid = header.uid; gid = header.gid }
 
-abbrev pub told_request : Request → ℕ × ℕ × (ℕ × List Value)
-told_request r = (r.unique, r.node, told r.operation)
+unfoldable pub request_at : Names → List ℕ → Result (ℕ × ℕ × Caller × (ℕ × List Value)) WireFault
+request_at names frame =
+    parts_at frame >>= λ parts. operation_at parts.0.opcode parts.1 >>= λ x. named names x.1 >>= λ _. Ok (parts.0.unique, parts.0.node, caller_of parts.0, x)
+
+abbrev pub told_request : Request → ℕ × ℕ × Caller × (ℕ × List Value)
+told_request r = (r.unique, r.node, r.caller, told r.operation)

@@ -1,9 +1,11 @@
 -- Which bytes are a request. What is not named here is not read.
 use Rattle.std.specs.Prelude.{◌≡◌, ◌≢◌, ℕ, ◌-◌, ◌^◌, ◌<◌, ◌≤◌, List, [], ◌∷◌, length, drop, Option, Some, None, ◌==◌, if◌then◌else◌, All, codes}
-use Rattle.std.specs.Str.{IsUtf8}
 use Rattle.std.specs.List.{AllByRecursion}
 use Rattle.byteorder.specs.Endian.{little_number}
+use Rattle.terms.specs.declared.settings.Names.{Names}
+use Rattle.terms.specs.Names.{IsSpelled}
 use Rattle.wire.specs.declared.header.Header.{Header}
+use Rattle.wire.specs.declared.request.Caller.{Caller}
 use Rattle.wire.specs.declared.opcode.TheConstants.{LOOKUP, FORGET, GETATTR, SETATTR, READLINK, SYMLINK, MKDIR, UNLINK, RMDIR, RENAME, LINK, OPEN, READ, WRITE, STATFS, RELEASE, FSYNC, FLUSH, INIT, OPENDIR, READDIR, RELEASEDIR, FSYNCDIR, CREATE, INTERRUPT, DESTROY, BATCH_FORGET, READDIRPLUS, RENAME2}
 use Rattle.wire.specs.declared.request.TheConstants.{HEADER_LEN, MAX_FRAME_LEN, MAX_READ_LEN, MAX_WRITE_LEN}
 use Rattle.wire.specs.declared.request.NewAttributes.{NewAttributes}
@@ -12,7 +14,8 @@ use Rattle.wire.specs.declared.request.Operation.{Operation}
 use Rattle.wire.specs.declared.request.Operation.TheVariants.{Lookup, Forget, GetAttr, SetAttr, ReadLink, MakeLink, MakeDir, Unlink, RemoveDir, Rename, Link, Open, Read, Write, StatFs, Release, Sync, Flush, Init, OpenDir, ReadDir, ReleaseDir, SyncDir, Create, Interrupt, Destroy, BatchForget, ReadDirPlus, Rename2}
 use Rattle.wire.specs.Fields.{Field, unread, text, link_text, counted, limited, anything, u32, u64, Value, num, name, bytes, Spells}
 
--- ---- the header: the length, the opcode, unique, the node number, and sixteen bytes that are not read
+-- ---- the header: the length, the opcode, unique, the node number, the user and the group of the calling process, and
+-- eight bytes that are not read
 
 abbrev pub opcode_in : List ℕ → ℕ
 opcode_in frame = little_number 4 (drop 4 frame)
@@ -23,11 +26,20 @@ unique_in frame = little_number 8 (drop 8 frame)
 abbrev pub node_in : List ℕ → ℕ
 node_in frame = little_number 8 (drop 16 frame)
 
+abbrev pub uid_in : List ℕ → ℕ
+uid_in frame = little_number 4 (drop 24 frame)
+
+abbrev pub gid_in : List ℕ → ℕ
+gid_in frame = little_number 4 (drop 28 frame)
+
+abbrev pub caller_in : List ℕ → Caller
+caller_in frame = record { uid = uid_in frame; gid = gid_in frame }
+
 abbrev pub body_in : List ℕ → List ℕ
 body_in frame = drop HEADER_LEN frame
 
 abbrev pub header_in : List ℕ → Header
-header_in frame = record { opcode = opcode_in frame; unique = unique_in frame; node = node_in frame }
+header_in frame = record { opcode = opcode_in frame; unique = unique_in frame; node = node_in frame; uid = uid_in frame; gid = gid_in frame }
 
 -- a whole frame, as long as its header says
 pub record IsFramed (frame : List ℕ) : Type 0 where
@@ -152,11 +164,11 @@ IsLaidOut (Some fields) values body = Spells fields values body
 
 -- ---- names
 
--- 1 to 255 bytes of UTF-8, neither `.` nor `..`, and no slash
-pub record IsName (t : List ℕ) : Type 0 where
+-- 1 to 255 bytes, of UTF-8 where names are texts, neither `.` nor `..`, and no slash
+pub record IsName (names : Names) (t : List ℕ) : Type 0 where
   pub some : 0 < length t
   pub short : length t ≤ 255
-  pub utf8 : IsUtf8 t
+  pub spelled : IsSpelled names t
   pub not_here : t ≢ codes "."
   pub not_above : t ≢ codes ".."
   pub no_slash : All (λ b. b ≢ 47) t
@@ -170,18 +182,20 @@ names_in (bytes _ ∷ values) = names_in values
 
 -- ---- requests
 
--- The frame is this request.
-pub record IsRequest (frame : List ℕ) (r : Request) : Type 0 where
+-- The frame is this request, of a session that takes these names.
+pub record IsRequest (names : Names) (frame : List ℕ) (r : Request) : Type 0 where
   pub framed : IsFramed frame
   pub opcode : opcode_of r.operation ≡ opcode_in frame
   pub unique : r.unique ≡ unique_in frame
   pub node : r.node ≡ node_in frame
+  pub caller : r.caller ≡ caller_in frame
   pub body : IsLaidOut (layout (opcode_in frame)) (values_of r.operation) (body_in frame)
-  pub names : AllByRecursion IsName (names_in (values_of r.operation))
+  pub lawful : AllByRecursion (IsName names) (names_in (values_of r.operation))
 
 -- the same request, wherever its names and its other bytes are stored
 pub record IsSame (a b : Request) : Type 0 where
   pub unique : a.unique ≡ b.unique
   pub node : a.node ≡ b.node
+  pub caller : a.caller ≡ b.caller
   pub opcode : opcode_of a.operation ≡ opcode_of b.operation
   pub values : values_of a.operation ≡ values_of b.operation

@@ -55,11 +55,12 @@ written_by (Some fields) values = written fields values
 abbrev pub operation_bytes : Operation → List ℕ
 operation_bytes o = written_by (layout (opcode_of o)) (values_of o)
 
--- the length, the opcode, unique, the node number, sixteen zero bytes (uid, gid, pid and padding), and the body
+-- the length, the opcode, unique, the node number, the user and the group of the caller, eight zero bytes (pid and padding), and
+-- the body
 unfoldable pub request_bytes : Request → List ℕ
 request_bytes r =
-    le 4 (HEADER_LEN + length (operation_bytes r.operation)) ++ le 4 (opcode_of r.operation) ++ le 8 r.unique ++ le 8 r.node ++ zeros 16
-    ++ operation_bytes r.operation
+    le 4 (HEADER_LEN + length (operation_bytes r.operation)) ++ le 4 (opcode_of r.operation) ++ le 8 r.unique ++ le 8 r.node ++ le 4 r.caller.uid
+    ++ le 4 r.caller.gid ++ zeros 8 ++ operation_bytes r.operation
 
 -- ---- replies
 

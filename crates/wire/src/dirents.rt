@@ -42,7 +42,7 @@ fn padding(len: usize) -> u8
 }
 
 /// How many bytes the directory entry of this name has.
-fn dirent_len(name: &str) -> usize
+fn dirent_len(name: &[u8]) -> usize
     ensures is { result ≡ DIRENT_LEN + length name.now + padding_of name.now }
     ensures short { result ≤ 2 ^ 63 + 32 }
 {
@@ -52,18 +52,18 @@ fn dirent_len(name: &str) -> usize
 
 /// Appends a name and its padding of zeros.
 #[tactic(auto, unfolding(crate::specs::Written::zeros))]
-fn put_padded(out: &mut Vec<u8>, name: &str, padding: u8)
+fn put_padded(out: &mut Vec<u8>, name: &[u8], padding: u8)
     requires few { padding < 8 }
     requires room { vec_len out.old + length name.now + padding ≤ vec_capacity out.old }
     ensures { out.new.items ≡ out.old.items ++ (name.now ++ zeros padding) }
 {
-    put(out, name.as_bytes());
+    put(out, name);
     let zeros = [0; 7];
     put(out, &zeros[..padding as usize]);
 }
 
 #[tactic(auto, using(crate::proofs::Listed::dirents))]
-fn put_dirent(out: &mut Vec<u8>, ino: u64, next: u64, kind: Kind, name: &str)
+fn put_dirent(out: &mut Vec<u8>, ino: u64, next: u64, kind: Kind, name: &[u8])
     requires { vec_len out.old + (DIRENT_LEN + length name.now + padding_of name.now) ≤ vec_capacity out.old }
     ensures { out.new.items ≡ out.old.items ++ dirent_bytes (record { ino = ino; next = next; kind = kind; name = name.now }) }
 {
@@ -79,7 +79,7 @@ pub fn encode_dirent(
     ino: u64,
     next: u64,
     kind: Kind,
-    name: &str,
+    name: &[u8],
 ) -> Result<(), AllocError>
     ensures ok { OnOk result (out.new.items ≡ out.old.items ++ dirent_bytes (record { ino = ino; next = next; kind = kind; name = name.now })) }
     // What is appended is that entry, if four bytes can hold the length of its name.
@@ -116,7 +116,7 @@ fn given_words(entry: &Option<Entry>) -> [[u8; 8]; 16]
 
 /// Appends the node of a READDIRPLUS entry and then the directory entry with its name.
 #[tactic(auto, using(crate::proofs::Listed::dirents))]
-fn put_plus_dirent(out: &mut Vec<u8>, entry: &Option<Entry>, next: u64, kind: Kind, name: &str)
+fn put_plus_dirent(out: &mut Vec<u8>, entry: &Option<Entry>, next: u64, kind: Kind, name: &[u8])
     requires { vec_len out.old + (ENTRY_LEN + (DIRENT_LEN + length name.now + padding_of name.now)) ≤ vec_capacity out.old }
     ensures items { out.new.items ≡ out.old.items ++ plus_bytes (record { entry = entry.now; next = next; kind = kind; name = name.now }) }
     ensures tells { CanTell entry_layout (given_values entry.now) }
@@ -141,7 +141,7 @@ pub fn encode_plus_dirent(
     entry: Option<Entry>,
     next: u64,
     kind: Kind,
-    name: &str,
+    name: &[u8],
 ) -> Result<(), AllocError>
     ensures ok { OnOk result (out.new.items ≡ out.old.items ++ plus_bytes (record { entry = entry; next = next; kind = kind; name = name.now })) }
     // What is appended is that entry, if four bytes can hold the length of its name.

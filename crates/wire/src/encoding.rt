@@ -4,6 +4,7 @@
 ghost use Rattle.std.specs.Prelude.{◌≡◌, ℕ, List, ◌≤◌, ◌+◌, ◌^◌, ◌++◌, ◌<◌, length, vec_len, vec_capacity, OnOk, OnErr, pos};
 ghost use Rattle.wire.specs.declared.reply.ReplyBody.TheVariants.{Failed, Done};
 ghost use Rattle.wire.specs.Fields.{CanTell, IsBytes};
+ghost use Rattle.terms.specs.declared.settings.Names.{Names};
 ghost use Rattle.wire.specs.Requests.{IsRequest, opcode_of};
 ghost use Rattle.wire.specs.Replies.{IsReply, IsAnswer, IsErrno, reply_layout, reply_values};
 ghost use Rattle.wire.specs.Rows.{parts_bytes};
@@ -29,16 +30,17 @@ fn put_request(out: &mut Vec<u8>, request: &Request<'_>, row: &Row<'_>, len: usi
     put_u32(out, row.opcode);
     put_u64(out, request.unique);
     put_u64(out, request.node);
-    put_zeros(out, 16);
+    put_u32(out, request.caller.uid);
+    put_u32(out, request.caller.gid);
+    put_zeros(out, 8);
     put_parts(out, &row.parts);
 }
 
-/// Appends a request to a vector, for clients. Fields that the server does not read, such as uid, gid and pid, are
-/// zero. If memory is refused, the items do not change.
+/// Appends a request to a vector, for clients. Fields that the server does not read, such as pid, are zero. If memory is refused, the items do not change.
 pub fn encode_request(request: &Request<'_>, out: &mut Vec<u8>) -> Result<(), AllocError>
     ensures ok { OnOk result (out.new.items ≡ out.old.items ++ request_bytes request.now) }
     // If any frame is this request, then what is appended is one.
-    ensures again { (frame : List ℕ) → IsBytes frame → IsRequest frame request.now → IsRequest (request_bytes request.now) request.now }
+    ensures again { (names : Names) (frame : List ℕ) → IsBytes frame → IsRequest names frame request.now → IsRequest names (request_bytes request.now) request.now }
     ensures err { OnErr result (out.new.items ≡ out.old.items) }
 {
     let row = row_of(&request.operation);

@@ -2,10 +2,11 @@
 
 ghost use Rattle.std.specs.Prelude.{◌≡◌, ◌==◌, ◌<◌, ◌≤◌, IfSome, length, true};
 ghost use Rattle.std.specs.List.{position};
-ghost use Rattle.wire.specs.Reading.{Gives, number_at, unread_at, text_at, counted_at, limited_at, ended, utf8_at, name_at};
+ghost use Rattle.wire.specs.Reading.{Gives, number_at, unread_at, text_at, counted_at, limited_at, ended, spelled_at, name_at};
 
 use crate::fault::WireFault;
 use byteorder::{ByteOrder, LittleEndian};
+use terms::Names;
 
 pub fn u32_front(body: &[u8]) -> Result<(u32, &[u8]), WireFault>
     ensures { Gives (λ x. (x.0, x.1.now)) result (number_at 4 body.now) }
@@ -87,27 +88,29 @@ pub fn nothing_left(body: &[u8]) -> Result<(), WireFault>
     Ok(())
 }
 
-fn utf8_of(bytes: &[u8]) -> Result<&str, WireFault>
-    ensures { Gives (λ x. x.now) result (utf8_at bytes.now) }
+/// Tests that a name is UTF-8, if names are texts.
+fn test_spelling(names: Names, name: &[u8]) -> Result<(), WireFault>
+    ensures { Gives (λ _. name.now) result (spelled_at names name.now) }
 {
-    match str::from_utf8(bytes) {
-        Ok(text) => Ok(text),
-        Err(_) => Err(WireFault::NameBad),
+    if !names.takes(name) {
+        return Err(WireFault::NameBad);
     }
+    Ok(())
 }
 
-pub fn name_of(bytes: &[u8]) -> Result<&str, WireFault>
-    ensures { Gives (λ x. x.now) result (name_at bytes.now) }
+/// Tests a name.
+pub fn test_name(names: Names, name: &[u8]) -> Result<(), WireFault>
+    ensures { Gives (λ _. name.now) result (name_at names name.now) }
 {
-    if bytes.is_empty() {
+    if name.is_empty() {
         return Err(WireFault::NameBad);
     }
-    if bytes.len() > 255 {
+    if name.len() > 255 {
         return Err(WireFault::NameLong);
     }
-    let name = utf8_of(bytes)?;
-    if bytes == b".".as_slice() || bytes == b"..".as_slice() || bytes.contains(&b'/') {
+    test_spelling(names, name)?;
+    if name == b".".as_slice() || name == b"..".as_slice() || name.contains(&b'/') {
         return Err(WireFault::NameBad);
     }
-    Ok(name)
+    Ok(())
 }

@@ -15,6 +15,9 @@ pub struct Header {
     pub unique: u64,
     /// The node number that the request is about.
     pub node: u64,
+    /// The user and the group of the process that made the request, as the client says.
+    pub uid: u32,
+    pub gid: u32,
 }
 
 pub fn u32_in(frame: &[u8], at: usize) -> u32
@@ -44,5 +47,7 @@ pub fn header_of(frame: &[u8]) -> Option<Header>
         opcode: u32_in(frame, 4),
         unique: u64_in(frame, 8),
         node: u64_in(frame, 16),
+        uid: u32_in(frame, 24),
+        gid: u32_in(frame, 28),
     })
 }

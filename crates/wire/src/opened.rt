@@ -2,7 +2,7 @@
 
 ghost use Rattle.std.specs.Prelude.{◌∷◌, []};
 ghost use Rattle.wire.specs.Fields.{limited, u64, unread, num};
-ghost use Rattle.wire.specs.Reading.{Gives, fields_at, operation_at, told};
+ghost use Rattle.wire.specs.Reading.{Gives, values_at, operation_at, told};
 
 use crate::fault::WireFault;
 use crate::fronts::{
@@ -53,7 +53,7 @@ pub fn open_dir(body: &[u8]) -> Result<Operation<'_>, WireFault>
 
 /// A handle, an offset and a size, and nothing else that is read.
 fn page_alone(body: &[u8]) -> Result<(u64, u64, u32), WireFault>
-    ensures { Gives (λ x. num x.0 ∷ num x.1 ∷ num x.2 ∷ []) result (fields_at (u64 ∷ u64 ∷ limited MAX_READ_LEN ∷ unread 20 ∷ []) body.now) }
+    ensures { Gives (λ x. num x.0 ∷ num x.1 ∷ num x.2 ∷ []) result (values_at (u64 ∷ u64 ∷ limited MAX_READ_LEN ∷ unread 20 ∷ []) body.now) }
 {
     let (fh, rest) = u64_front(body)?;
     let (offset, rest) = u64_front(rest)?;
@@ -99,7 +99,7 @@ pub fn write(body: &[u8]) -> Result<Operation<'_>, WireFault>
 
 /// A handle and sixteen bytes that are not read.
 fn handle_alone(body: &[u8]) -> Result<u64, WireFault>
-    ensures { Gives (λ x. num x ∷ []) result (fields_at (u64 ∷ unread 16 ∷ []) body.now) }
+    ensures { Gives (λ x. num x ∷ []) result (values_at (u64 ∷ unread 16 ∷ []) body.now) }
 {
     let (fh, rest) = u64_front(body)?;
     let rest = unread_front(rest, 16)?;
@@ -133,7 +133,7 @@ pub fn release_dir(body: &[u8]) -> Result<Operation<'_>, WireFault>
 
 /// A handle and eight bytes that are not read.
 fn synced_alone(body: &[u8]) -> Result<u64, WireFault>
-    ensures { Gives (λ x. num x ∷ []) result (fields_at (u64 ∷ unread 8 ∷ []) body.now) }
+    ensures { Gives (λ x. num x ∷ []) result (values_at (u64 ∷ unread 8 ∷ []) body.now) }
 {
     let (fh, rest) = u64_front(body)?;
     let rest = unread_front(rest, 8)?;

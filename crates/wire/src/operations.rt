@@ -2,13 +2,11 @@
 
 ghost use Rattle.std.specs.Prelude.{◌∷◌, []};
 ghost use Rattle.wire.specs.Fields.{text, name};
-ghost use Rattle.wire.specs.Reading.{Gives, fields_at, operation_at, told};
+ghost use Rattle.wire.specs.Reading.{Gives, values_at, operation_at, told};
 ghost use Rattle.wire.specs.Requests.{new_attributes_layout, new_attributes_values};
 
 use crate::fault::WireFault;
-use crate::fronts::{
-    counted_front, name_of, nothing_left, text_front, u32_front, u64_front, unread_front,
-};
+use crate::fronts::{counted_front, nothing_left, text_front, u32_front, u64_front, unread_front};
 use crate::opcode::{
     BATCH_FORGET, CREATE, DESTROY, FLUSH, FORGET, FSYNC, FSYNCDIR, GETATTR, INIT, INTERRUPT, LINK,
     LOOKUP, MKDIR, OPEN, OPENDIR, READ, READDIR, READDIRPLUS, READLINK, RELEASE, RELEASEDIR,
@@ -21,12 +19,12 @@ use crate::opened::{
 use crate::request::{NewAttributes, Operation};
 use payload::Time;
 
-pub fn name_alone(body: &[u8]) -> Result<&str, WireFault>
-    ensures { Gives (λ x. name x.now ∷ []) result (fields_at (text ∷ []) body.now) }
+pub fn name_alone(body: &[u8]) -> Result<&[u8], WireFault>
+    ensures { Gives (λ x. name x.now ∷ []) result (values_at (text ∷ []) body.now) }
 {
     let (name, rest) = text_front(body)?;
     nothing_left(rest)?;
-    name_of(name)
+    Ok(name)
 }
 
 #[tactic(auto, unfolding(crate::specs::Reading::operation_at))]
@@ -50,7 +48,7 @@ fn get_attr(body: &[u8]) -> Result<Operation<'_>, WireFault>
 /// What a SETATTR may set besides the size, up to the end of the body. The lock owner and the time of the last change
 /// are not read.
 fn new_attributes(body: &[u8]) -> Result<NewAttributes, WireFault>
-    ensures { Gives new_attributes_values result (fields_at new_attributes_layout body.now) }
+    ensures { Gives new_attributes_values result (values_at new_attributes_layout body.now) }
 {
     let rest = unread_front(body, 8)?;
     let (accessed, rest) = u64_front(rest)?;
@@ -105,7 +103,6 @@ fn make_link(body: &[u8]) -> Result<Operation<'_>, WireFault>
     let (name, rest) = text_front(body)?;
     let (text, rest) = text_front(rest)?;
     nothing_left(rest)?;
-    let name = name_of(name)?;
     Ok(Operation::MakeLink { name, text })
 }
 
@@ -120,13 +117,13 @@ fn make_dir(body: &[u8]) -> Result<Operation<'_>, WireFault>
 }
 
 /// Two names, up to the end of the body.
-fn two_names(body: &[u8]) -> Result<(&str, &str), WireFault>
-    ensures { Gives (λ x. name x.0.now ∷ name x.1.now ∷ []) result (fields_at (text ∷ text ∷ []) body.now) }
+fn two_names(body: &[u8]) -> Result<(&[u8], &[u8]), WireFault>
+    ensures { Gives (λ x. name x.0.now ∷ name x.1.now ∷ []) result (values_at (text ∷ text ∷ []) body.now) }
 {
     let (name, rest) = text_front(body)?;
     let (new_name, rest) = text_front(rest)?;
     nothing_left(rest)?;
-    Ok((name_of(name)?, name_of(new_name)?))
+    Ok((name, new_name))
 }
 
 #[tactic(auto, unfolding(crate::specs::Reading::operation_at))]

@@ -125,13 +125,13 @@ pub fn put_u32s(out: &mut Vec<u8>, numbers: &[u32])
 }
 
 /// A text and a zero byte.
-pub fn put_text(out: &mut Vec<u8>, text: &str)
+pub fn put_text(out: &mut Vec<u8>, text: &[u8])
     requires { vec_len out.old + length text.now + 1 ≤ vec_capacity out.old }
     ensures items { out.new.items ≡ out.old.items ++ (text.now ++ 0 ∷ []) }
     ensures len { vec_len out.new ≡ vec_len out.old + length text.now + 1 }
     ensures capacity { vec_capacity out.old ≤ vec_capacity out.new }
 {
-    put(out, text.as_bytes());
+    put(out, text);
     put(out, &[0]);
 }
 

@@ -27,7 +27,7 @@ pub enum Part<'a> {
     /// That many zero bytes.
     Zeros(u8),
     /// A text and a zero byte.
-    Text(&'a str),
+    Text(&'a [u8]),
     Bytes(&'a [u8]),
     /// What a SETATTR sets besides the size. The lock owner and the time of the last change are zero.
     New(NewAttributes),

@@ -1,13 +1,13 @@
-use Rattle.std.proofs.Common.{ℕ, ◌≡◌, ◌≤◌, ◌+◌, ◌-◌, ◌∙◌, List, length, take, drop, ap, arith}
-use Rattle.std.proofs.lemmas.List.{length-take-le, length-take, length-drop}
+use Rattle.std.proofs.Common.{ℕ, ◌≡◌, ◌≤◌, ◌+◌, ◌-◌, ◌∙◌, List, length, take, drop, sym, ap, arith}
+use Rattle.std.proofs.lemmas.List.{drop-take, length-take-le, length-take, length-drop}
 use borrow.Rule.Slice.PartMut.{post_of}
 use Rattle.backing.specs.declared.call.Answer.TheVariants.{Bytes}
 use Rattle.backing.specs.Files.{read}
 use Rattle.disk_folder.proofs.PartLemmas.{behind_room}
 use Rattle.disk_folder.proofs.files.read_behind.Goals as goal
 
-pub returns-in-Ok-clause-ok : goal.returns-in-Ok-clause-ok
-returns-in-Ok-clause-ok g c = λ p bytes there file.
+pub returns-in_ok-bytes-in-Ok-clause-ok : goal.returns-in_ok-bytes-in-Ok-clause-ok
+returns-in_ok-bytes-in-Ok-clause-ok g c = λ p bytes there file.
     let d = c.deref_mut.result.now in
     let new = c.read_all.new.buffer in
     let count = c.in-Ok.count in
@@ -18,4 +18,4 @@ returns-in-Ok-clause-ok g c = λ p bytes there file.
     let fits : 16 + count ≤ c.args.buffer.len = omega (arith, long, within, c.requires.room) in
     let cut = behind_room (take 16 d) new (post_of 16 (length d - 16) d) _ count c.args.buffer.len 16 (length-take-le 16 d room) within fits in
     let size : length new ≡ length (drop 16 c.args.buffer.items) = omega (arith, long, length-drop {A = ℕ}) in
-    ap Bytes (c.behind.ensures ∙ (ap (λ (xs : List ℕ). drop 16 xs) c.truncate.ensures.items ∙ (cut ∙ (c.in-Ok.ensures.bytes p bytes there file ∙ ap (λ (n : ℕ). read bytes c.args.offset n) size))))
+    ap Bytes (c.in_ok-bytes-in-Ok.ensures ∙ (sym (drop-take 16 count _) ∙ (cut ∙ (c.in-Ok.ensures.bytes p bytes there file ∙ ap (λ (n : ℕ). read bytes c.args.offset n) size))))

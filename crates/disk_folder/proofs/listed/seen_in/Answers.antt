@@ -1,7 +1,5 @@
-use Rattle.std.proofs.Common.{◌≡◌, ◌∙◌, ◌++◌, ◌∷◌, [], List, IfSome, length, sym, subst}
-use Rattle.std.specs.List.{All}
+use Rattle.std.proofs.Common.{◌≡◌, ◌∙◌, ◌++◌, ◌∷◌, [], IfSome, length, sym, subst}
 use Rattle.paths.specs.Prefixes.{Names}
-use Rattle.disk_folder.specs.declared.listing.SeenName.{SeenName}
 use Rattle.disk_folder.specs.Seen.{IsSeen}
 use Rattle.disk_folder.proofs.WayLemmas.{parent_is}
 use Rattle.disk_folder.proofs.listed.seen_in.Goals as goal
@@ -14,5 +12,4 @@ returns-then-is_prefix_of c = λ at all.
     let whole : path ≡ above ++ c.in-Some.name.now ∷ [] = sym c.names.ensures ∙ c.in-Some.ensures.cases.0 in
     let long : length above ≡ length up = c.if-above-len.true ∙ c.len.ensures in
     let path_is = parent_is up path above c.in-Some.name.now whole long (sym c.is_prefix_of.ensures ∙ c.if-is_prefix_of.true) in
-    let seen : All (λ (one : SeenName). IsSeen at (up ++ one.name ∷ []) one.seen) c.as_slice.result.now = subst (λ (xs : List SeenName). All (λ (one : SeenName). IsSeen at (up ++ one.name ∷ []) one.seen) xs) (sym c.as_slice.ensures.value) all in
-    subst (λ (q : Names). IfSome c.seen_at.result (IsSeen at q)) path_is (c.seen_at.ensures at up seen)
+    subst (λ (q : Names). IfSome c.seen_at.result (IsSeen at q)) path_is (c.seen_at.ensures at up all)

@@ -34,6 +34,7 @@ asks_left None (endings.Each looks) call e = omega (arith, looks_left looks.left
 asks_left None (endings.Replace s t left) call e = omega arith
 asks_left None (endings.Hide hiding) call e = omega (arith, hides_left hiding.path.now hiding.left.now (after_hide hiding.path.now (option_map (λ s. s.now) hiding.source)) (calls_after (option_map (λ s. s.now) hiding.source)) call e)
 asks_left None (endings.Set setting) call e = omega arith
+asks_left None (endings.Made making) call e = lit< tt
 asks_left None (endings.MoveAfter s t candidate) call e = lit< tt
 asks_left None (endings.Remove p) call e = lit< tt
 asks_left None (endings.Over finding) call e = absurd (none-some call e)

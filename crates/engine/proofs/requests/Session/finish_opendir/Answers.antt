@@ -15,7 +15,7 @@ returns-in-Err-Lawless-clause-concludes g c =
       chain = refl;
       so = λ made follows.
           subst (λ (e : End). Concludes (by_rules g.R.Reach.steps c.args.self.now.settings g.L.Outlet.sends) (begun_of c.args.begun) made e [] (with_table c.args.link.now (g.R.Reach.world c.args.table.now)) c.finish_and_reply.result (with_table c.finish_and_reply.new.link (g.R.Reach.world c.finish_and_reply.new.table))) end
-          (c.finish_and_reply.ensures.concludes made (subst (λ (e : End). Follows (plan_of c.args.self.now.settings c.args.begun.request.operation c.args.begun.ticket) made e) (sym end) follows));
+          (c.finish_and_reply.ensures.concludes made (subst (λ (e : End). Follows (plan_of c.args.self.now.settings c.args.begun.request.caller c.args.begun.request.operation c.args.begun.ticket) made e) (sym end) follows));
     }
 
 pub returns-in-Err-Memory-clause-concludes : goal.returns-in-Err-Memory-clause-concludes
@@ -28,5 +28,5 @@ returns-in-Err-Memory-clause-concludes g c =
       chain = refl;
       so = λ made follows.
           subst (λ (e : End). Concludes (by_rules g.R.Reach.steps c.args.self.now.settings g.L.Outlet.sends) (begun_of c.args.begun) made e [] (with_table c.args.link.now (g.R.Reach.world c.args.table.now)) c.end_without_memory.result (with_table c.end_without_memory.new.link (g.R.Reach.world c.end_without_memory.new.table))) end
-          (c.end_without_memory.ensures.concludes made c.args.children made_is (subst (λ (e : End). Follows (plan_of c.args.self.now.settings c.args.begun.request.operation c.args.begun.ticket) made e) (sym end) follows));
+          (c.end_without_memory.ensures.concludes made c.args.children made_is (subst (λ (e : End). Follows (plan_of c.args.self.now.settings c.args.begun.request.caller c.args.begun.request.operation c.args.begun.ticket) made e) (sym end) follows));
     }

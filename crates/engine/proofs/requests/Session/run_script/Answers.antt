@@ -20,7 +20,7 @@ returns-in-Err-clause-runs g c = record {
 pub returns-in-Listed-clause-runs : goal.returns-in-Listed-clause-runs
 returns-in-Listed-clause-runs g c =
     let played = c.play-found.ensures in
-    let plan = plan_of c.args.self.now.settings c.args.attempt.request.operation c.args.ticket in
+    let plan = plan_of c.args.self.now.settings c.args.attempt.request.caller c.args.attempt.request.operation c.args.ticket in
     let follows = subst (λ (p : Plan). Follows p played.made (end_of c.play-found.result)) c.in-Ok.ensures.ok played.follows in
     let found = subst (λ (f : ScriptResult). Follows plan played.made (end_of f)) c.in-Listed.is follows in
     subst (λ (page : Paged). RunsScript (by_rules g.R.Reach.steps c.args.self.now.settings g.L.Outlet.sends) (does g.C.Calls.gives g.D.Folders.keeps) (begun_with c.args.attempt.request page c.args.ticket) (around c.args.link.now c.args.served.now (g.R.Reach.world c.args.table.now)) c.finish_opendir.result (around c.finish_opendir.new.link (record { calls = c.play-found.new.calls; dirs = c.finish_opendir.new.dirs }) (g.R.Reach.world c.finish_opendir.new.table))) c.page-page.ensures
@@ -34,7 +34,7 @@ returns-in-Listed-clause-runs g c =
 pub returns-in-Looked-clause-runs : goal.returns-in-Looked-clause-runs
 returns-in-Looked-clause-runs g c =
     let played = c.play-found.ensures in
-    let plan = plan_of c.args.self.now.settings c.args.attempt.request.operation c.args.ticket in
+    let plan = plan_of c.args.self.now.settings c.args.attempt.request.caller c.args.attempt.request.operation c.args.ticket in
     let follows = subst (λ (p : Plan). Follows p played.made (end_of c.play-found.result)) c.in-Ok.ensures.ok played.follows in
     let found = subst (λ (f : ScriptResult). Follows plan played.made (end_of f)) c.in-Looked.is follows in
     subst (λ (page : Paged). RunsScript (by_rules g.R.Reach.steps c.args.self.now.settings g.L.Outlet.sends) (does g.C.Calls.gives g.D.Folders.keeps) (begun_with c.args.attempt.request page c.args.ticket) (around c.args.link.now c.args.served.now (g.R.Reach.world c.args.table.now)) c.tell_entries.result (around c.tell_entries.new.link (record { calls = c.play-found.new.calls; dirs = c.args.served.now.dirs }) (g.R.Reach.world c.tell_entries.new.table))) c.page-page.ensures
@@ -48,7 +48,7 @@ returns-in-Looked-clause-runs g c =
 pub returns-in-Bytes-clause-runs : goal.returns-in-Bytes-clause-runs
 returns-in-Bytes-clause-runs g c =
     let played = c.play-found.ensures in
-    let plan = plan_of c.args.self.now.settings c.args.attempt.request.operation c.args.ticket in
+    let plan = plan_of c.args.self.now.settings c.args.attempt.request.caller c.args.attempt.request.operation c.args.ticket in
     let follows = subst (λ (p : Plan). Follows p played.made (end_of c.play-found.result)) c.in-Ok.ensures.ok played.follows in
     let found = subst (λ (f : ScriptResult). Follows plan played.made (end_of f)) c.in-Bytes.is follows in
     subst (λ (page : Paged). RunsScript (by_rules g.R.Reach.steps c.args.self.now.settings g.L.Outlet.sends) (does g.C.Calls.gives g.D.Folders.keeps) (begun_with c.args.attempt.request page c.args.ticket) (around c.args.link.now c.args.served.now (g.R.Reach.world c.args.table.now)) c.finish_and_reply-sent.result (around c.finish_and_reply-sent.new.link (record { calls = c.offer_room.new.self; dirs = c.args.served.now.dirs }) (g.R.Reach.world c.finish_and_reply-sent.new.table))) c.page-page.ensures
@@ -62,7 +62,7 @@ returns-in-Bytes-clause-runs g c =
 pub returns-in_default-clause-runs : goal.returns-in_default-clause-runs
 returns-in_default-clause-runs g c =
     let played = c.play-found.ensures in
-    let plan = plan_of c.args.self.now.settings c.args.attempt.request.operation c.args.ticket in
+    let plan = plan_of c.args.self.now.settings c.args.attempt.request.caller c.args.attempt.request.operation c.args.ticket in
     let follows = subst (λ (p : Plan). Follows p played.made (end_of c.play-found.result)) c.in-Ok.ensures.ok played.follows in
     subst (λ (page : Paged). RunsScript (by_rules g.R.Reach.steps c.args.self.now.settings g.L.Outlet.sends) (does g.C.Calls.gives g.D.Folders.keeps) (begun_with c.args.attempt.request page c.args.ticket) (around c.args.link.now c.args.served.now (g.R.Reach.world c.args.table.now)) c.finish_and_reply.result (around c.finish_and_reply.new.link (record { calls = c.play-found.new.calls; dirs = c.args.served.now.dirs }) (g.R.Reach.world c.finish_and_reply.new.table))) c.page-page.ensures
     (record {

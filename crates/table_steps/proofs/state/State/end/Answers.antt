@@ -1,17 +1,21 @@
-use Rattle.std.proofs.Common.{ℕ, ◌≡◌, Contains, List, length, Bool, Option, Some, None, false, refl, sym, ap, ◌∙◌, subst}
+use Rattle.std.proofs.Common.{ℕ, ◌≡◌, Contains, List, length, Bool, Option, Some, None, [], false, refl, sym, ap, ◌∙◌, subst}
 use Rattle.std.specs.Prelude.{option_map}
 use Rattle.table_requests.specs.declared.data.RequestInFlight.{RequestInFlight as Recorded}
 use Rattle.table_requests.specs.declared.data.Given.{Given}
 use Rattle.table_requests.specs.Listed.{requests_of}
 use Rattle.table_requests.specs.RequestMaps.{is_working}
 use Rattle.tree.specs.declared.nodes.Key.{Key}
+use Rattle.table_requests.specs.declared.data.Case.{Case}
+use Rattle.table_requests.specs.declared.data.Handle.{Handle}
+use Rattle.table_requests.specs.declared.data.Want.{Want}
+use Rattle.table_requests.specs.declared.data.Want.TheVariants as wants
 use Rattle.table_footprints.specs.NewRequests.{footprint_in}
-use Rattle.table_footprints.specs.Footprints.{Change, Footprint, Location, Opening, stays}
+use Rattle.table_footprints.specs.Footprints.{Change, Footprint, Location, Opening, footprint_of, stays}
 use Rattle.table_steps.specs.declared.acts.EnteredNames.{EnteredNames as Entered}
 use Rattle.table_steps.specs.Keeping.{kept_by}
 use Rattle.table_steps.specs.declared.data.Outcome.{Outcome}
 use Rattle.std.specs.List.{slice_get}
-use Rattle.table_steps.specs.declared.data.Outcome.TheVariants.{Done, Entry, Failed, Hidden, HiddenMove}
+use Rattle.table_steps.specs.declared.data.Outcome.TheVariants.{Done, Entries, Entry, Failed, Hidden, HiddenMove}
 use Rattle.table_steps.specs.declared.state.State.{State}
 use Rattle.table_steps.specs.Answers.{Answer}
 use Rattle.table_steps.specs.Ending.{AreUnowned, ChangesNames, GivesAll, candidates_in, change_in, MayAlter, MayEnter, MayFill, folders_in, folders_of, is_page, keys_in, with_in}
@@ -26,15 +30,39 @@ use Rattle.table_steps.proofs.Rooted.{are_unowned, folder_leads, may_alter, may_
 use Rattle.table_steps.proofs.Viewed.{are_kept}
 use Rattle.table_steps.proofs.state.State.end.Goals as goal
 
+-- whatever the outcome, nothing is done for the want of a node alone
+node_acts : (number : ℕ) (handle : Option Handle) (case : Case) (o : Outcome) → (let d = footprint_of (wants.Node number handle) case in act_of d o ≡ act_of d Failed)
+node_acts number handle case Failed = refl
+node_acts number handle case Done = refl
+node_acts number handle case Entry = refl
+node_acts number handle case (Entries found) = refl
+node_acts number handle case (Hidden i) = refl
+node_acts number handle case (HiddenMove i moved) = refl
+
+pub returns-then-is_node-clause-ends : goal.returns-then-is_node-clause-ends
+returns-then-is_node-clause-ends c e =
+    let w = world_of c.args.self.now in
+    let work = c.args.work in
+    let footprint = footprint_in work in
+    let node = c.is_node.ensures c.if-is_node.true in
+    let bare : footprint.entries ≡ [] = ap (λ (v : Want). (footprint_of v work.case).entries) node.2 in
+    let act : act_of footprint c.args.outcome ≡ act_of footprint Failed
+    = subst (λ (v : Want). act_of (footprint_of v work.case) c.args.outcome ≡ act_of (footprint_of v work.case) Failed) (sym node.2) (node_acts node.0 node.1 work.case c.args.outcome) in
+    let answer : c.give_none.result ≡ record { id = c.args.id; given = nothing_for footprint.entries; lost = false; opened = None } =
+    c.give_none.ensures ∙ ap (λ (ks : List Key). let a : Answer = record { id = c.args.id; given = nothing_for ks; lost = false; opened = None } in a) (sym bare) in
+    subst (λ (done : Act). Ends w c.args.id (flight_of e.flight) done footprint.entries c.give_none.result w) (sym act)
+    (subst (λ (a : Answer). Ends w c.args.id (flight_of e.flight) (act_of footprint Failed) footprint.entries a w) (sym answer)
+    (ends_changed w w c.args.id (flight_of e.flight) (ap (λ o. option_map flight_of o) e.here) (ap stage_of e.answered) (act_of footprint Failed) footprint.entries refl refl (nothing_changes w (kept_by c.args.self.now.flights c.args.self.now.files) (are_kept c.args.self.now.flights c.args.self.now.files c.requires.kept.flying c.requires.kept.filed) c.requires.kept.law.reasons)))
+
 pub returns-in-Failed-clause-ends : goal.returns-in-Failed-clause-ends
 returns-in-Failed-clause-ends c e =
     let w = world_of c.args.self.now in
     let work = c.args.work in
     let footprint = footprint_in work in
     let entries : keys_in c.acts_of-entries.result.entries ≡ footprint.entries = c.acts_of-entries.ensures.entries in
-    let answer : c.give_none.result ≡ record { id = c.args.id; given = nothing_for footprint.entries; lost = false; opened = None } =
-    c.give_none.ensures ∙ ap (λ (ks : List Key). let a : Answer = record { id = c.args.id; given = nothing_for ks; lost = false; opened = None } in a) entries in
-    subst (λ (o : Outcome). Ends w c.args.id (flight_of e.flight) (act_of footprint o) footprint.entries c.give_none.result w) (sym c.in-Failed.is)
+    let answer : c.give_none-in-Failed.result ≡ record { id = c.args.id; given = nothing_for footprint.entries; lost = false; opened = None } =
+    c.give_none-in-Failed.ensures ∙ ap (λ (ks : List Key). let a : Answer = record { id = c.args.id; given = nothing_for ks; lost = false; opened = None } in a) entries in
+    subst (λ (o : Outcome). Ends w c.args.id (flight_of e.flight) (act_of footprint o) footprint.entries c.give_none-in-Failed.result w) (sym c.in-Failed.is)
     (subst (λ (a : Answer). Ends w c.args.id (flight_of e.flight) (act_of footprint Failed) footprint.entries a w) (sym answer)
     (ends_changed w w c.args.id (flight_of e.flight) (ap (λ o. option_map flight_of o) e.here) (ap stage_of e.answered) (act_of footprint Failed) footprint.entries refl refl (nothing_changes w (kept_by c.args.self.now.flights c.args.self.now.files) (are_kept c.args.self.now.flights c.args.self.now.files c.requires.kept.flying c.requires.kept.filed) c.requires.kept.law.reasons)))
 

@@ -1,0 +1,15 @@
+pub mod Naming
+pub mod Becoming
+pub mod Reading
+pub mod Making
+pub mod Removing
+pub mod Moving
+pub mod Standing
+pub mod FileChanges
+pub mod Forgotten
+pub mod Running
+pub mod Agreeing
+pub mod Swapping
+pub mod Owning
+pub mod Together
+pub mod Exclusive

@@ -1,0 +1,28 @@
+use Rattle.std.proofs.Common.{[], ◌∷◌, ◌++◌}
+use Rattle.laws.proofs.Making.{makes, makes_once}
+use Rattle.laws.proofs.Standing.{kept}
+use Rattle.laws.proofs.object_disk.one_name.OneNameDisk.make_file.Goals as goal
+
+pub returns : goal.returns
+returns g c = λ up (free, led).
+    let disk = c.args.self.now.disk in
+    let disk' = c.make_file.new.self in
+    let objects = g.D.ObjectDisk.objects disk in
+    let objects' = g.D.ObjectDisk.objects disk' in
+    let opens = g.D.ObjectDisk.opens disk in
+    let opens' = g.D.ObjectDisk.opens disk' in
+    makes c.args.self.now.linked objects objects' opens opens' (g.met.D.ObjectDisk.are_items disk) (up ++ c.args.name.now ∷ []) c.make_file.result free (c.make_file.ensures.made up led)
+
+pub invariant_of-self : goal.invariant_of-self
+invariant_of-self g c =
+    let disk = c.args.self.now.disk in
+    let disk' = c.make_file.new.self in
+    let objects = g.D.ObjectDisk.objects disk in
+    let objects' = g.D.ObjectDisk.objects disk' in
+    let opens = g.D.ObjectDisk.opens disk in
+    let opens' = g.D.ObjectDisk.opens disk' in
+    record {
+      one_name = λ free.
+          let one = c.args.self.now.one_name free in
+          kept objects objects' opens opens' c.args.dir.now one (g.met.D.ObjectDisk.all_stand disk) c.make_file.ensures.nowhere (λ up led. makes_once objects objects' opens opens' one (up ++ c.args.name.now ∷ []) c.make_file.result (c.make_file.ensures.made up led));
+    }

@@ -1,0 +1,11 @@
+pub mod Objects
+pub mod ObjectAnswers
+pub mod FileNames
+pub mod FileNamesLemmas
+pub mod Forgetting
+pub mod Outstanding
+pub mod Runs
+pub mod Exchanging
+pub mod Owning
+pub mod Together
+pub mod Exclusive

@@ -1,9 +1,0 @@
--- What a caller has pending, as contracts see it.
-use Rattle.std.specs.Prelude.{List}
-use Rattle.table_steps.specs.Answers.{Answer}
-use Rattle.table_runs.specs.declared.pending.Started.{Started}
-
--- the tickets that were not finished yet, each with its want, and the answers that were not settled yet
-pub record Outstanding : Type 0 where
-  pub tickets : List Started
-  pub answers : List Answer
