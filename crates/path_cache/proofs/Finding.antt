@@ -1,5 +1,5 @@
 -- What is found among entries after one was promoted, written, put or taken out.
-use Rattle.std.proofs.Common.{rules, ◌≡◌, ℕ, zero, suc, ◌-◌, ◌≤◌, Bool, true, false, cond, ◌⊎◌, inl, inr, List, [], ◌∷◌, length, take, Option, Some, None, refl, sym, ap, ◌∙◌}
+use Rattle.std.proofs.Common.{rules, ◌≡◌, ℕ, zero, suc, ◌-◌, ◌≤◌, Bool, true, false, cond, ◌⊎◌, inl, inr, List, [], ◌∷◌, length, take, Option, Some, None, refl, sym, ap, ◌∙◌, slice_get}
 use Rattle.std.specs.Cmp.{IsEquivalence}
 use Rattle.std.specs.Cmp.Rules.{comparing}
 use Rattle.std.specs.List.{IsDistinct}
@@ -27,6 +27,14 @@ same_if_both : (q x y : Key) → same_key q x ≡ true → same_key q y ≡ true
 same_if_both q x y a b = sym (key_is q.parent q.name x a) ∙ key_is q.parent q.name y b
 
 module _ {V : Type 0} where
+  -- the entry that comes first of all is the one under its key
+  pub entry-first : (es : Entries V) (parent : ℕ) (name : Name) (e : Key × Entry V) → slice_get es 0 ≡ Some e → is_key parent name e.0 ≡ true → entry_in es parent name ≡ Some e.1
+  entry-first [] parent name e h is = absurd (none-some e h)
+  entry-first (x ∷ es) parent name e h is =
+      let same : x ≡ e = same_Some x e h in
+      cond-true (is_key parent name x.0) (Some x.1) (lookup (is_key parent name) es) (ap (λ (y : Key × Entry V). is_key parent name y.0) same ∙ is)
+      ∙ ap (λ (y : Key × Entry V). Some y.1) same
+
   -- the first entry that passes may as well come first of all
   front : (test q : Key → Bool) → ((x y : Key) → q x ≡ true → q y ≡ true → x ≡ y) → (es : List (Key × V)) (f : Key × V) → lookup_entry test es ≡ Some f → lookup q (f ∷ remove_entry test es) ≡ lookup q es
   front test q one [] f h = absurd (none-some f h)

@@ -1,6 +1,6 @@
 //! The entries, each under a name in the folder that another one is, or the root.
 
-ghost use Rattle.std.specs.Prelude.{◌≡◌, ◌≤◌, ◌+◌, ◌-◌, ◌^◌, true, false, length, take, Some, IsSome};
+ghost use Rattle.std.specs.Prelude.{◌≡◌, ◌≤◌, ◌+◌, ◌-◌, ◌^◌, true, false, length, take, Some, IsSome, IfSome};
 ghost use Rattle.std.specs.Option.{option_map, option_copied};
 ghost use Rattle.path_cache.specs.Walks.{with_found, without_found};
 ghost use Rattle.path_cache.specs.Entries.{kept_of, entry_in, found, weight, MayPut};
@@ -8,6 +8,7 @@ ghost use Rattle.path_cache.specs.Entries.{kept_of, entry_in, found, weight, May
 use crate::keys::{Key, Query};
 use lru::LruCache;
 use paths::Name;
+use std::collections::hash_map::Equivalent;
 use std::hash::RandomState;
 
 /// What is kept under a name.
@@ -23,8 +24,24 @@ pub struct Entry<V> {
 /// The entries by their keys, of which the least recently used one is the last.
 pub(crate) type Entries<V> = LruCache<Key, Entry<V>, RandomState>;
 
-/// The entry under the name, which is used now: its number.
-pub(crate) fn use_entry<V>(entries: &mut Entries<V>, parent: u64, name: &Name) -> Option<u64>
+/// The entry under the name, if that was used last: it is often used again, and no name is hashed to find it.
+fn last_used<'a, V>(entries: &'a Entries<V>, parent: u64, name: &Name) -> Option<&'a Entry<V>>
+    ensures { IfSome result (λ entry. entry_in entries.now.entries parent name.now ≡ Some entry.now) }
+{
+    match entries.peek_mru() {
+        Some((key, entry)) => {
+            if (Query { parent, name }).equivalent(key) {
+                Some(entry)
+            } else {
+                None
+            }
+        }
+        None => None,
+    }
+}
+
+/// The number of the entry under the name, which comes first of all from now on.
+fn number_of_used<V>(entries: &mut Entries<V>, parent: u64, name: &Name) -> Option<u64>
     ensures number { result ≡ option_map (λ k. k.number) (found entries.old.entries parent name.now) }
     ensures same { found entries.new.entries ≡ found entries.old.entries }
     ensures cap { entries.new.cap ≡ entries.old.cap }
@@ -36,6 +53,19 @@ pub(crate) fn use_entry<V>(entries: &mut Entries<V>, parent: u64, name: &Name) -
     }
 }
 
+/// The entry under the name, which is used now: its number.
+pub(crate) fn use_entry<V>(entries: &mut Entries<V>, parent: u64, name: &Name) -> Option<u64>
+    ensures number { result ≡ option_map (λ k. k.number) (found entries.old.entries parent name.now) }
+    ensures same { found entries.new.entries ≡ found entries.old.entries }
+    ensures cap { entries.new.cap ≡ entries.old.cap }
+    ensures len { length entries.new.entries ≡ length entries.old.entries }
+{
+    match last_used(entries, parent, name) {
+        Some(entry) => Some(entry.number),
+        None => number_of_used(entries, parent, name),
+    }
+}
+
 /// The entry under the name.
 pub(crate) fn entry_of<'a, V>(
     entries: &'a Entries<V>,
@@ -44,7 +74,10 @@ pub(crate) fn entry_of<'a, V>(
 ) -> Option<&'a Entry<V>>
     ensures { option_copied result ≡ entry_in entries.now.entries parent name.now }
 {
-    entries.peek(Query { parent, name })
+    match last_used(entries, parent, name) {
+        Some(entry) => Some(entry),
+        None => entries.peek(Query { parent, name }),
+    }
 }
 
 /// Notes that the entry under the name, if there is one, was seen then, in milliseconds.
