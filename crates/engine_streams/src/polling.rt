@@ -4,8 +4,10 @@ ghost use Rattle.std.specs.Prelude.{IfSome};
 ghost use Rattle.std.specs.Io.{ReadsAtMost};
 
 use crate::asking::Asking;
+use libc::net::{MSG_DONTWAIT, recv};
 use std::io;
 use std::io::{ErrorKind, Read};
+use std::os::fd::AsRawFd;
 use std::os::unix::net::UnixStream;
 
 /// How often one read polls at most before it blocks: for about 30 microseconds.
@@ -13,8 +15,7 @@ const ASKED: u32 = 128;
 
 /// Reads from a socket. For a client whose next request comes within some microseconds the thread does not sleep.
 ///
-/// Between two reads the socket is in blocking mode, so that a thread that writes to it does not have to care. The same
-/// thread must write: with several threads one could write while another polls.
+/// The socket itself stays in blocking mode, since each read that polls says of itself that it does not wait.
 #[derive(Drop)]
 pub struct Polling<'a> {
     stream: &'a UnixStream,
@@ -29,13 +30,23 @@ struct Came {
     at_once: bool,
 }
 
+/// One read that does not wait for anything to come.
+fn read_at_once(stream: &UnixStream, room: &mut [u8]) -> io::Result<usize>
+    ensures { ReadsAtMost result room.new }
+{
+    let moved = unsafe { recv(stream.as_raw_fd(), room, MSG_DONTWAIT) };
+    match usize::try_from(moved) {
+        Ok(count) => Ok(count),
+        Err(_) => Err(io::Error::from_raw_os_error(os::errno())),
+    }
+}
+
 /// Polls for what is there, at most that often. None means that nothing came.
 fn ask(stream: &UnixStream, room: &mut [u8], times: u32) -> Option<Came>
     ensures { IfSome result (λ came. ReadsAtMost came.read room.new) }
 {
-    let mut stream = stream;
     for time in 0..times {
-        let read = stream.read(room);
+        let read = read_at_once(stream, room);
         let waits = match &read {
             Ok(_) => false,
             Err(error) => error.kind() == ErrorKind::WouldBlock,
@@ -57,17 +68,11 @@ impl<'a> Polling<'a> {
         }
     }
 
-    /// Polls for a while. None means that nothing came, or that the socket cannot be polled.
+    /// Polls for a while. None means that nothing came.
     fn poll(&self, room: &mut [u8]) -> Option<Came>
         ensures { IfSome result (λ came. ReadsAtMost came.read room.new) }
     {
-        if self.stream.set_nonblocking(true).is_err() {
-            return None;
-        }
-        let asked = ask(self.stream, room, ASKED);
-        // Blocking mode can be set back, since it was just changed.
-        let _ = self.stream.set_nonblocking(false);
-        asked
+        ask(self.stream, room, ASKED)
     }
 
     /// Blocks until something comes.

@@ -29,7 +29,7 @@ fn meet<R: AllocGlobal>(
     let Ok(heard) = output.try_clone() else {
         return Err(Unserved::NoSocket);
     };
-    // Threads do not poll the socket: one could write to it while another has set it to non-blocking mode.
+    // Threads do not poll the socket: measured, that made no workload faster, and it keeps a processor busy.
     let Ok(input) = BufReader::with_capacity(rt.alloc(), RECEIVED, heard) else {
         return Err(Unserved::Memory);
     };
