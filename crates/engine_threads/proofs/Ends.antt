@@ -12,7 +12,7 @@ use Rattle.table_shared.specs.Histories.{Made}
 use Rattle.engine_turns.specs.Reads.{HasReadAll}
 use Rattle.engine_turns.specs.Shown.{queued_of, shown}
 use Rattle.engine_threads.specs.Ended.{EndsAs}
-use Rattle.engine_threads.specs.Served.{Behaviours, Ground, HasServed}
+use Rattle.engine_threads.specs.Served.{Behaviours, Endpoints, HasServed}
 use Rattle.engine_threads.specs.declared.ended.Account.{Account}
 use Rattle.engine_turns.specs.Verdicts.{KeepsNone, Progress, Queued, ReadsAs, Stops, and_then}
 
@@ -64,7 +64,7 @@ none_as (Some over) false end e n = ap (λ (x : SessionEnd). Some x) (sym e ∙ 
 none_as None false end e n = absurd e
 
 -- some workers served, or memory was refused
-pub never_none : {I O C : Type 0} (by : Behaviours I O C) (limits : Limits) (settings : Settings) (given back : Ground I O C) (account : Option Account) (end : SessionEnd)
+pub never_none : {I O C : Type 0} (by : Behaviours I O C) (limits : Limits) (settings : Settings) (given back : Endpoints I O C) (account : Option Account) (end : SessionEnd)
     → IfNone account (end ≡ ends.Memory) → IfSome account (λ (a : Account). EndsAs a.passed.input a.passed.is_broken end) → IfSome account (λ (a : Account). ∥ ((history : List Made) × HasServed by limits settings a.passed a.sums.totals given back history) ∥₁) → end ≢ ends.NoWorkers
 never_none by limits settings given back None end memory ended served none = (let both : ends.Memory ≡ ends.NoWorkers = sym memory ∙ none in cc both)
 never_none {I} {O} {C} by limits settings given back (Some a) end memory ended served none = ∥∥₁_elim served (λ (x y : ⊥). absurd x) (λ (k : (history : List Made) × HasServed by limits settings a.passed a.sums.totals given back history).

@@ -12,7 +12,7 @@ use Rattle.table_shared.specs.Current.{StaysCurrent}
 use Rattle.table_shared.specs.Histories.{IsHistory, Made, history_of, last_world}
 use Rattle.table_shared.specs.Runs.{Log}
 use Rattle.engine_turns.specs.Writes.{writing}
-use Rattle.engine_threads.specs.Served.{Behaviours, Ground, HasRun, HasServed, LastRemoves, served_with}
+use Rattle.engine_threads.specs.Served.{Behaviours, Endpoints, HasRun, HasServed, LastRemoves, served_with}
 use Rattle.engine_threads.specs.Worked.{did, does_shared}
 use Rattle.engine_threads.proofs.Histories.{history_keeps}
 use Rattle.engine_threads.proofs.Unreserved.{all_unreserved}
@@ -20,7 +20,7 @@ use Rattle.engine_threads.specs.declared.ended.Passed.{Passed}
 
 module _ {I O C L : Type 0} (by : Behaviours I O C) (settings : Settings) where
   -- what was served is what a closed table shows
-  pub has_served : (limits : Limits) (log : Log L) (passed : Passed) (totals : Totals) (given back : Ground I O C) (lefts : List C) → IsHistory (opened_world limits) (history_of log) → StaysCurrent (history_of log) → ((index : ℕ) → length given.calls + 1 ≤ index → did log index ≡ [])
+  pub has_served : (limits : Limits) (log : Log L) (passed : Passed) (totals : Totals) (given back : Endpoints I O C) (lefts : List C) → IsHistory (opened_world limits) (history_of log) → StaysCurrent (history_of log) → ((index : ℕ) → length given.calls + 1 ≤ index → did log index ≡ [])
       → totals ≡ totals_over (last_world (opened_world limits) (history_of log)).postings → HasRun by settings (did log) passed given (served_with back.link_in back.link_out lefts) → LastRemoves by.gives (last_world (opened_world limits) (history_of log)) lefts back.calls
       → ∥ ((history : List Made) × HasServed by limits settings passed totals given back history) ∥₁
   has_served limits log passed totals given back lefts run current nobody are ran removes =

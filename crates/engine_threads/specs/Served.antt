@@ -35,19 +35,19 @@ pub record Behaviours (I O C : Type 0) : Type 1 where
 abbrev pub behaviours : {I O C : Type 0} → (C → Asked → Answer → C → Type 0) → (I → Heard → I → Type 0) → (O → List ℕ → Sent → O → Type 0) → Behaviours I O C
 behaviours gives receives sends = record { gives = gives; receives = receives; sends = sends }
 
--- what a session is served with, or what is left of that
-pub record Ground (I O C : Type 0) : Type 0 where
+-- the links and the directories that a session is served with, or what is left of them
+pub record Endpoints (I O C : Type 0) : Type 0 where
   pub link_in : I
   pub link_out : O
   pub calls : List C
 
-abbrev pub served_with : {I O C : Type 0} → I → O → List C → Ground I O C
+abbrev pub served_with : {I O C : Type 0} → I → O → List C → Endpoints I O C
 served_with link_in link_out calls = record { link_in = link_in; link_out = link_out; calls = calls }
 
 -- A session was served by so many workers as there are directories, from the first byte of its links: what was received was queued, each job
 -- was worked on by one worker and each reply offered, and these links and directories are left. Which thread made which calls on the
 -- table is given; the writer's index comes after those of the workers.
-pub record HasRun {I O C : Type 0} (by : Behaviours I O C) (settings : Settings) (calls_by : ℕ → List Call) (passed : Passed) (given left : Ground I O C) : Type 0 where
+pub record HasRun {I O C : Type 0} (by : Behaviours I O C) (settings : Settings) (calls_by : ℕ → List Call) (passed : Passed) (given left : Endpoints I O C) : Type 0 where
   pub numbers : numbers_of passed.passes.value.items ≡ range_with_len 0 (length given.calls)
   pub reads : ∥ HasReadAll by.receives (Some given.link_in) passed.input (queued_of (view passed.read.value).put) (option_map shown passed.last_job.value) left.link_in ∥₁
   pub shared : IsShared (view passed.read.value) passed.passes.value.items (view passed.written.value)
@@ -67,7 +67,7 @@ pub record LastRemoves {C : Type 0} (gives : C → Asked → Answer → C → Ty
 -- did are the settles of the replies that it took. In the order in which they were made all these calls lead from the opened table to
 -- its last world, each by its own step; the totals are those of that world's ledger. What comes back are the links as they were left,
 -- and the directories, of which the last has removed the files that were still hidden.
-pub record HasServed {I O C : Type 0} (by : Behaviours I O C) (limits : Limits) (settings : Settings) (passed : Passed) (totals : Totals) (given back : Ground I O C) (history : List Made) : Type 0 where
+pub record HasServed {I O C : Type 0} (by : Behaviours I O C) (limits : Limits) (settings : Settings) (passed : Passed) (totals : Totals) (given back : Endpoints I O C) (history : List Made) : Type 0 where
   pub run : IsHistory (opened_world limits) history
   -- from a request's begin to its finish the paths that it was given lead to the nodes that it holds
   pub current : StaysCurrent history

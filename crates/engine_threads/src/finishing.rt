@@ -5,7 +5,7 @@ ghost use Rattle.std.specs.List.{All};
 ghost use Rattle.crossbeam_channel.specs.Ends.{sends_on};
 ghost use Rattle.engine_queues.specs.Gathered.{takings_of};
 ghost use Rattle.terms.specs.declared.settings.Settings.{Settings};
-ghost use Rattle.engine_threads.specs.Served.{behaviours, served_with, Ground, HasRun};
+ghost use Rattle.engine_threads.specs.Served.{behaviours, served_with, Endpoints, HasRun};
 ghost use Rattle.engine_threads.specs.Worked.{did};
 
 use crate::alone::{Alone, work_alone};
@@ -222,7 +222,7 @@ pub fn check_off<
     requires room { (4 ≤ vec_capacity parted.passes) × (4 ≤ vec_capacity parted.calls) × (4 ≤ vec_capacity taken) }
     requires empty { (parted.passes.items ≡ []) × (parted.calls.items ≡ []) × (taken.items ≡ []) }
     ensures taken { result.taken.items ≡ map (λ js. length js) (takings_of result.passed.passes.value.items) }
-    ensures ran { (settings : Settings) (given : Ground I O C) → S.settings ≡ Some settings → S.heard_from ≡ Some given.link_in → S.sent_to ≡ Some given.link_out → S.given ≡ given.calls
+    ensures ran { (settings : Settings) (given : Endpoints I O C) → S.settings ≡ Some settings → S.heard_from ≡ Some given.link_in → S.sent_to ≡ Some given.link_out → S.given ≡ given.calls
         → HasRun (behaviours C.gives I.receives O.sends) settings (did result.closed.table.log) result.passed given (served_with result.link_in result.link_out result.calls.items) }
 {
     let mut shares = shares;

@@ -5,12 +5,12 @@ use Rattle.engine.specs.declared.ends.SessionEnd.{SessionEnd}
 use Rattle.engine_streams.specs.Device.{Got, OnDevice, Receives, Sends, unused}
 use Rattle.engine_streams.specs.declared.device.DeviceFault.{DeviceFault}
 use Rattle.engine_streams.specs.declared.device.NoDevice.{NoDevice}
-use Rattle.engine_threads.specs.Served.{behaviours, Ground}
+use Rattle.engine_threads.specs.Served.{behaviours, Endpoints}
 use Rattle.mirrord_server.specs.Workers.{ServesDeviceBy, ServesLinks}
 use Rattle.terms.specs.declared.terms.Terms.{Terms}
 
 -- from the beginning of both links
-pub served_over : {R W : Type 0} (gives : R → Got → R → Type 0) (takes : W → List ℕ → Result ℕ DeviceFault → W → Type 0) (terms : Terms) (workers : ℕ) (requests : R) (replies : W) (none : NoDevice) (input : OnDevice R NoDevice) (output : OnDevice NoDevice W) (over : SessionEnd) (back : Ground (OnDevice R NoDevice) (OnDevice NoDevice W) ℕ)
+pub served_over : {R W : Type 0} (gives : R → Got → R → Type 0) (takes : W → List ℕ → Result ℕ DeviceFault → W → Type 0) (terms : Terms) (workers : ℕ) (requests : R) (replies : W) (none : NoDevice) (input : OnDevice R NoDevice) (output : OnDevice NoDevice W) (over : SessionEnd) (back : Endpoints (OnDevice R NoDevice) (OnDevice NoDevice W) ℕ)
     → input ≡ unused requests none → output ≡ unused none replies → ServesLinks (behaviours Tells (Receives gives) (Sends takes)) terms workers input output over back
     → ServesDeviceBy gives takes terms workers requests replies (Ok over)
 served_over {R} {W} gives takes terms workers requests replies none input output over back from to serves =

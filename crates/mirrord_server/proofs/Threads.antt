@@ -4,7 +4,7 @@ use Rattle.table_shared.specs.Histories.{Made}
 use Rattle.engine.specs.declared.ends.SessionEnd.{SessionEnd}
 use Rattle.engine.specs.declared.ends.SessionEnd.TheVariants as end
 use Rattle.engine_threads.specs.Ended.{EndsAs}
-use Rattle.engine_threads.specs.Served.{served_with, Behaviours, Ground, HasServed}
+use Rattle.engine_threads.specs.Served.{served_with, Behaviours, Endpoints, HasServed}
 use Rattle.engine_threads.specs.declared.ended.Account.{Account}
 use Rattle.engine_threads.specs.declared.given.Given.{Given}
 use Rattle.terms.specs.Limits.{limits_of}
@@ -12,8 +12,8 @@ use Rattle.mirrord_server.specs.Workers.{ServesLinks}
 use Rattle.terms.specs.declared.terms.Terms.{Terms}
 
 -- what a session is served with, or what came back
-abbrev pub ground_of : {I O : Type 0} → Given I O ℕ → Ground I O ℕ
-ground_of given = served_with given.link_in given.link_out given.calls.items
+abbrev pub endpoints_of : {I O : Type 0} → Given I O ℕ → Endpoints I O ℕ
+endpoints_of given = served_with given.link_in given.link_out given.calls.items
 
 -- what was done with the folders
 pub served_by : {I O : Type 0} (by : Behaviours I O ℕ) (terms : Terms) (workers : ℕ) (given back : Given I O ℕ) (account : Option Account) (over : SessionEnd)
@@ -21,10 +21,10 @@ pub served_by : {I O : Type 0} (by : Behaviours I O ℕ) (terms : Terms) (worker
     → (over ≡ end.NoWorkers → (workers ≡ 0) ⊎ (4 < workers))
     → IfNone account (((over ≡ end.Memory) ⊎ (over ≡ end.NoWorkers)) × (back ≡ given))
     → IfSome account (λ a. EndsAs a.passed.input a.passed.is_broken over)
-    → IfSome account (λ a. ∥ ((history : List Made) × HasServed by (limits_of terms.bounds) terms.settings a.passed a.sums.totals (ground_of given) (ground_of back) history) ∥₁)
-    → ServesLinks by terms workers given.link_in given.link_out over (ground_of back)
+    → IfSome account (λ a. ∥ ((history : List Made) × HasServed by (limits_of terms.bounds) terms.settings a.passed a.sums.totals (endpoints_of given) (endpoints_of back) history) ∥₁)
+    → ServesLinks by terms workers given.link_in given.link_out over (endpoints_of back)
 served_by by terms workers given back None over new only (why, same) ends served =
-    let beginning = ap ground_of same ∙ ap (λ (calls : List ℕ). served_with given.link_in given.link_out calls) new in
+    let beginning = ap endpoints_of same ∙ ap (λ (calls : List ℕ). served_with given.link_in given.link_out calls) new in
     inr (record { why = told why; back_is = beginning })
   where
     told : ((over ≡ end.Memory) ⊎ (over ≡ end.NoWorkers)) → (over ≡ end.Memory) ⊎ ((over ≡ end.NoWorkers) × ((workers ≡ 0) ⊎ (4 < workers)))
@@ -33,6 +33,6 @@ served_by by terms workers given back None over new only (why, same) ends served
 served_by by terms workers given back (Some account) over new only unserved ends served =
     inl (record {
       account = account;
-      served = subst (λ (calls : List ℕ). ∥ ((history : List Made) × HasServed by (limits_of terms.bounds) terms.settings account.passed account.sums.totals (served_with given.link_in given.link_out calls) (ground_of back) history) ∥₁) new served;
+      served = subst (λ (calls : List ℕ). ∥ ((history : List Made) × HasServed by (limits_of terms.bounds) terms.settings account.passed account.sums.totals (served_with given.link_in given.link_out calls) (endpoints_of back) history) ∥₁) new served;
       ends = ends;
     })
