@@ -1,4 +1,5 @@
-//! Turns of a worker whose directory has a known tree.
+//! Turns of a worker whose directory has a known tree. No program calls them: workers serve folders of the system, whose tree no contract
+//! knows. They say what the same body does where one is known.
 
 ghost use Rattle.std.specs.Prelude.{◌≡◌, Option};
 ghost use Rattle.crossbeam_channel.specs.Claims.{view};

@@ -248,7 +248,7 @@ impl<E, J: Naming<E>> History<E, J> {
         me.badge = own.into_badge();
     }
 
-    /// What one of two threads knows is a prefix of what the other knows.
+    /// What one of two threads knows is a prefix of what the other knows. No program calls it: it says that all threads have one order.
     pub fn compare(
         &self,
         whole_log: &mut WholeLog<E, J>,

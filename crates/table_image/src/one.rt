@@ -1,4 +1,4 @@
-//! Taking over images of an earlier version.
+//! Taking over images of an earlier version. No program calls it, since none keeps a table beyond its end.
 
 ghost use Rattle.std.specs.Prelude.{◌≡◌, ◌↔◌, []};
 ghost use Rattle.ledger.specs.Shares.{nothing};
