@@ -3,11 +3,10 @@
 ghost use Rattle.std.specs.Prelude.{◌≡◌, replicate, vec_len};
 ghost use Rattle.mirrord_server.specs.Workers.{ServesDeviceBy};
 
-use crate::host_folder::HostFolder;
-use crate::workers::{open_folders, serve_workers};
+use crate::workers::serve_workers;
 use engine::SessionEnd;
 use engine_streams::{Device, DeviceLink, NoDevice, ReadRequest, WriteReply};
-use mirrord_sessions::{Terms, Unserved, new_seeds};
+use mirrord_sessions::{HostFolder, Terms, Unserved, new_seeds, open_folders};
 use std::random::RandomSource;
 use std::sync::Wait;
 use std::thread::Threads;

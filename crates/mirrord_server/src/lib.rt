@@ -2,7 +2,6 @@
 #![tactic(auto)]
 
 mod device;
-mod host_folder;
 mod socket;
 mod workers;
 

@@ -3,11 +3,12 @@
 ghost use Rattle.std.specs.Prelude.{◌≡◌, replicate, vec_len};
 ghost use Rattle.mirrord_server.specs.Workers.{from_socket, to_socket, ServesWorkers};
 
-use crate::host_folder::HostFolder;
-use crate::workers::{open_folders, serve_workers};
+use crate::workers::serve_workers;
 use engine::SessionEnd;
 use engine_streams::StreamLink;
-use mirrord_sessions::{RECEIVED, SocketFile, Terms, Unserved, new_seeds};
+use mirrord_sessions::{
+    HostFolder, RECEIVED, SocketFile, Terms, Unserved, new_seeds, open_folders,
+};
 use std::alloc::Global;
 use std::fs::File;
 use std::io;

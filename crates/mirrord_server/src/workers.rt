@@ -1,42 +1,16 @@
 //! Serving a folder of the system with several threads.
 
-ghost use Rattle.std.specs.Prelude.{◌≡◌, ◌≢◌, IfErr, IfOk, replicate, vec_len};
+ghost use Rattle.std.specs.Prelude.{◌≡◌, replicate, vec_len};
 ghost use Rattle.disk_folder.specs.Explained.{Tells};
 ghost use Rattle.engine_threads.specs.Served.{behaviours, served_with};
-ghost use Rattle.mirrord_sessions.specs.declared.folder.Unserved.TheVariants.{NoSocket};
 ghost use Rattle.mirrord_server.specs.Workers.{ServesLinks};
 
-use crate::host_folder::{HostFolder, open_first, open_next};
 use engine::{LinkIn, LinkOut};
 use engine_threads::{Ended, Given, serve_threads};
-use mirrord_sessions::{Terms, Unserved};
-use std::random::RandomSource;
+use mirrord_sessions::{HostFolder, Terms};
 use std::sync::Wait;
 use std::thread::Threads;
 use table::Seeds;
-use terms::Settings;
-
-/// A folder for each worker, all on the same root, of which the kinds of files and the names of these settings
-/// are shown.
-pub(crate) fn open_folders<H: Wait + RandomSource + AllocGlobal + Clone + Drop>(
-    rt: &H,
-    root: &str,
-    settings: Settings,
-    workers: u8,
-) -> Result<Vec<HostFolder<H>>, Unserved>
-    ensures unused { IfOk result (λ folders. folders.items ≡ replicate workers 0) }
-    ensures len { IfOk result (λ folders. vec_len folders ≡ workers) }
-    ensures why { IfErr result (λ why. why ≢ NoSocket) }
-{
-    let Ok(mut folders) = Vec::with_capacity(rt.alloc(), usize::from(workers)) else {
-        return Err(Unserved::Memory);
-    };
-    let first = open_first(rt, root, settings)?;
-    for opened in 0..workers {
-        folders.push_reserved(open_next(rt, &first, workers)?);
-    }
-    Ok(folders)
-}
 
 /// Serves a client that sends over one link and gets its replies over another, with one worker for each folder.
 pub(crate) fn serve_workers<

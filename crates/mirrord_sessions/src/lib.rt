@@ -13,6 +13,7 @@ mod runs;
 mod samples;
 mod socket;
 mod socket_file;
+mod worker_folders;
 
 pub use device::serve_device;
 pub use disks::{Disks, LinuxDisks, not_opened, not_started};
@@ -28,3 +29,4 @@ pub use samples::new_tree;
 pub use socket::{RECEIVED, serve_socket};
 pub use socket_file::SocketFile;
 pub use terms::{Bounds, Terms};
+pub use worker_folders::{HostFolder, open_folders};

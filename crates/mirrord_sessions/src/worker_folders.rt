@@ -1,13 +1,14 @@
-//! The folder of one worker.
+//! One folder of Linux for several threads: each has a folder of its own on the same root, and all share the files that are kept open.
 
-ghost use Rattle.std.specs.Prelude.{◌≡◌, ◌≢◌, IfErr, IfOk};
+ghost use Rattle.std.specs.Prelude.{◌≡◌, ◌≢◌, IfErr, IfOk, replicate, vec_len};
 ghost use Rattle.mirrord_sessions.specs.declared.folder.Unserved.TheVariants.{NoSocket};
 
+use crate::disks::{not_opened, not_started};
+use crate::folder::{Unserved, new_seed};
 use backing::{Answer, Call, Calls};
 use disk::Unknown;
 use disk_folder::Folder;
 use linux_disk::{LibC, Linux, OpenFd, SharedFiles, room_for_open};
-use mirrord_sessions::{Unserved, new_seed, not_opened, not_started};
 use std::marker::Model;
 use std::num::NonZeroUsize;
 use std::random::RandomSource;
@@ -15,11 +16,11 @@ use std::sync::Wait;
 use terms::Settings;
 
 /// The folder of Linux that all workers serve, with the files that they share.
-pub(crate) type HostDisk<H> = Linux<LibC, SharedFiles<OpenFd, H>>;
+type HostDisk<H> = Linux<LibC, SharedFiles<OpenFd, H>>;
 
 /// A folder that another thread may use. Of its disk nothing is known.
 #[derive(Drop)]
-pub(crate) struct HostFolder<H: Wait + Clone + Drop> {
+pub struct HostFolder<H: Wait + Clone + Drop> {
     folder: Folder<Unknown<HostDisk<H>>>,
 }
 
@@ -61,7 +62,7 @@ fn folders_kept(workers: u8) -> usize {
 }
 
 /// The folder at `root`, of which the kinds of files and the names of these settings are shown.
-pub(crate) fn open_first<H: Wait + RandomSource + AllocGlobal + Clone + Drop>(
+fn open_first<H: Wait + RandomSource + AllocGlobal + Clone + Drop>(
     rt: &H,
     root: &str,
     settings: Settings,
@@ -86,7 +87,7 @@ pub(crate) fn open_first<H: Wait + RandomSource + AllocGlobal + Clone + Drop>(
 }
 
 /// The same folder for one of so many workers.
-pub(crate) fn open_next<H: Wait + RandomSource + Clone + Drop>(
+fn open_next<H: Wait + RandomSource + Clone + Drop>(
     rt: &H,
     first: &HostDisk<H>,
     workers: u8,
@@ -103,4 +104,26 @@ pub(crate) fn open_next<H: Wait + RandomSource + Clone + Drop>(
         Ok(folder) => Ok(HostFolder { folder }),
         Err(error) => Err(not_opened(error)),
     }
+}
+
+/// A folder for each worker, all on the same root, of which the kinds of files and the names of these settings
+/// are shown.
+pub fn open_folders<H: Wait + RandomSource + AllocGlobal + Clone + Drop>(
+    rt: &H,
+    root: &str,
+    settings: Settings,
+    workers: u8,
+) -> Result<Vec<HostFolder<H>>, Unserved>
+    ensures unused { IfOk result (λ folders. folders.items ≡ replicate workers 0) }
+    ensures len { IfOk result (λ folders. vec_len folders ≡ workers) }
+    ensures why { IfErr result (λ why. why ≢ NoSocket) }
+{
+    let Ok(mut folders) = Vec::with_capacity(rt.alloc(), usize::from(workers)) else {
+        return Err(Unserved::Memory);
+    };
+    let first = open_first(rt, root, settings)?;
+    for opened in 0..workers {
+        folders.push_reserved(open_next(rt, &first, workers)?);
+    }
+    Ok(folders)
 }
