@@ -17,8 +17,8 @@ const ASKED: u32 = 128;
 ///
 /// The socket itself stays in blocking mode, since each read that polls says of itself that it does not wait.
 #[derive(Drop)]
-pub struct Polling<'a> {
-    stream: &'a UnixStream,
+pub struct Polling {
+    stream: UnixStream,
     asking: Asking,
 }
 
@@ -59,9 +59,9 @@ fn ask(stream: &UnixStream, room: &mut [u8], times: u32) -> Option<Came>
     None
 }
 
-impl<'a> Polling<'a> {
+impl Polling {
     /// Reads from that socket. The first one polls.
-    pub fn new(stream: &'a UnixStream) -> Polling<'a> {
+    pub fn new(stream: UnixStream) -> Polling {
         Polling {
             stream,
             asking: Asking::new(),
@@ -72,19 +72,19 @@ impl<'a> Polling<'a> {
     fn poll(&self, room: &mut [u8]) -> Option<Came>
         ensures { IfSome result (λ came. ReadsAtMost came.read room.new) }
     {
-        ask(self.stream, room, ASKED)
+        ask(&self.stream, room, ASKED)
     }
 
     /// Blocks until something comes.
     fn wait(&self, room: &mut [u8]) -> io::Result<usize>
         ensures { ReadsAtMost result room.new }
     {
-        let mut stream = self.stream;
+        let mut stream = &self.stream;
         stream.read(room)
     }
 }
 
-impl<'a> Read for Polling<'a> {
+impl Read for Polling {
     fn read(&mut self, buf: &mut [u8]) -> io::Result<usize> {
         if !self.asking.begins() {
             return self.wait(buf);

@@ -5,9 +5,9 @@ ghost use Rattle.mirrord_server.specs.Workers.{from_socket, to_socket, ServesWor
 
 use crate::workers::serve_workers;
 use engine::SessionEnd;
-use engine_streams::StreamLink;
+use engine_streams::{Polling, StreamLink};
 use mirrord_sessions::{
-    HostFolder, RECEIVED, SocketFile, Terms, Unserved, new_seeds, open_folders,
+    Connection, HostFolder, RECEIVED, SocketFile, Terms, Unserved, new_seeds, open_folders,
 };
 use std::alloc::Global;
 use std::fs::File;
@@ -21,24 +21,8 @@ use std::sync::Wait;
 use std::thread::Threads;
 use table::Seeds;
 
-/// Waits for one client, and returns both ends of its connection.
-fn meet<R: AllocGlobal>(
-    rt: &R,
-    place: &SocketFile,
-) -> Result<(BufReader<UnixStream>, UnixStream), Unserved> {
-    let output = place.accept()?;
-    let Ok(heard) = output.try_clone() else {
-        return Err(Unserved::NoSocket);
-    };
-    // Threads do not poll the socket: measured, that made no workload faster, and it keeps a processor busy.
-    let Ok(input) = BufReader::with_capacity(rt.alloc(), RECEIVED, heard) else {
-        return Err(Unserved::Memory);
-    };
-    Ok((input, output))
-}
-
 /// The link over which a client sends.
-fn link_from(alloc: Global, input: BufReader<UnixStream>) -> StreamLink<BufReader<UnixStream>, Sink>
+fn link_from(alloc: Global, input: BufReader<Polling>) -> StreamLink<BufReader<Polling>, Sink>
     ensures { result ≡ from_socket }
 {
     StreamLink::new(alloc, input, io::sink())
@@ -62,7 +46,10 @@ fn serve_first<H: Threads + Wait + AllocGlobal + Clone + Send + Sync + Drop + 's
     requires { folders.items ≡ replicate (vec_len folders) 0 }
     ensures { ServesWorkers terms (vec_len folders) result }
 {
-    let (input, output) = meet(rt, place)?;
+    let Connection { input, output } = place.accept()?;
+    let Ok(input) = BufReader::with_capacity(rt.alloc(), RECEIVED, input) else {
+        return Err(Unserved::Memory);
+    };
     let link_in = link_from(rt.alloc(), input);
     let link_out = link_to(rt.alloc(), output);
     Ok(serve_workers(rt, folders, seeds, terms, link_in, link_out).end)

@@ -27,6 +27,6 @@ pub use refused::{explain, refuse};
 pub use runs::{Streams, TreeServed, hex_run, pipe_run, run_hex};
 pub use samples::new_tree;
 pub use socket::{RECEIVED, serve_socket};
-pub use socket_file::SocketFile;
+pub use socket_file::{Connection, SocketFile};
 pub use terms::{Bounds, Terms};
 pub use worker_folders::{HostFolder, open_folders};

@@ -5,15 +5,14 @@ ghost use Rattle.mirrord_sessions.specs.Folders.{ServesSocket};
 
 use crate::disks::Disks;
 use crate::folder::{Unserved, open_seeded, serve_opened};
-use crate::socket_file::SocketFile;
+use crate::socket_file::{Connection, SocketFile};
 use disk::Disk;
 use disk_folder::Folder;
 use engine::SessionEnd;
-use engine_streams::{Holding, Polling};
+use engine_streams::Holding;
 use std::fs::File;
 use std::io::{BufReader, Write};
 use std::net::Net;
-use std::os::unix::net::UnixStream;
 use std::random::RandomSource;
 use std::rt::Files;
 use std::sync::Wait;
@@ -23,21 +22,22 @@ use terms::Terms;
 /// How many bytes one receive from the system takes at most.
 pub const RECEIVED: usize = 131_072;
 
-/// Serves the client at the other end of a socket.
+/// Serves the client at the other end of a connection.
 fn serve_client<H: Wait + AllocGlobal, D: Disk + Drop>(
     rt: &H,
     folder: Folder<D>,
     seeds: Seeds,
     terms: Terms,
-    stream: &UnixStream,
+    connection: Connection,
 ) -> Result<SessionEnd, Unserved>
     requires { IsNew folder }
     ensures { ServesSocket (claims D.honest D.tree D.has_set D.has_synced) terms result }
 {
-    let Ok(input) = BufReader::with_capacity(rt.alloc(), RECEIVED, Polling::new(stream)) else {
+    let Connection { input, output } = connection;
+    let Ok(input) = BufReader::with_capacity(rt.alloc(), RECEIVED, input) else {
         return Err(Unserved::Memory);
     };
-    let output = Holding::new(rt.alloc(), stream);
+    let output = Holding::new(rt.alloc(), output);
     let mut over = serve_opened(rt, folder, seeds, terms, input, output);
     // Replies can be left only if more came after the DESTROY; the session is over, whatever becomes of them.
     let _ = over.output.flush();
@@ -55,8 +55,8 @@ fn serve_first<H: Wait + AllocGlobal, D: Disk + Drop>(
     requires { IsNew folder }
     ensures { ServesSocket (claims D.honest D.tree D.has_set D.has_synced) terms result }
 {
-    let stream = place.accept()?;
-    serve_client(rt, folder, seeds, terms, &stream)
+    let connection = place.accept()?;
+    serve_client(rt, folder, seeds, terms, connection)
 }
 
 /// Serves the first client that connects to a new socket at `path`, whose file is removed afterwards.

@@ -6,6 +6,7 @@ ghost use Rattle.std.specs.declared.io.ErrorKind.{ErrorKind};
 ghost use Rattle.mirrord_sessions.specs.Starts.{unheard_by};
 
 use crate::folder::Unserved;
+use engine_streams::Polling;
 use std::fs::File;
 use std::io::ErrorKind;
 use std::net::Net;
@@ -42,6 +43,13 @@ fn identity_of<R: Files<File = File> + AllocGlobal>(rt: &R, path: &str) -> Optio
     }
 }
 
+/// Both ends of a connection to a client, by a descriptor each, so that threads may have one each.
+#[derive(Drop)]
+pub struct Connection {
+    pub input: Polling,
+    pub output: UnixStream,
+}
+
 /// A socket to which a client may connect, and the file that was created for it.
 #[derive(Drop)]
 pub struct SocketFile {
@@ -67,11 +75,17 @@ impl SocketFile {
     }
 
     /// Waits for one client.
-    pub fn accept(&self) -> Result<UnixStream, Unserved>
+    pub fn accept(&self) -> Result<Connection, Unserved>
         ensures { IfErr result (λ why. (kind : ErrorKind) × (why ≡ unheard_by kind)) }
     {
         match self.listener.accept() {
-            Ok((stream, _)) => Ok(stream),
+            Ok((output, _)) => match output.try_clone() {
+                Ok(heard) => Ok(Connection {
+                    input: Polling::new(heard),
+                    output,
+                }),
+                Err(error) => Err(unheard(error)),
+            },
             Err(error) => Err(unheard(error)),
         }
     }

@@ -11,7 +11,7 @@ use std::time::Duration;
 const READS: u8 = 40;
 
 /// Sends one byte after another, and reads each before the next one is sent. Returns whether each came alone.
-fn exchange(sender: &UnixStream, reader: &mut Polling<'_>) -> io::Result<bool> {
+fn exchange(sender: &UnixStream, reader: &mut Polling) -> io::Result<bool> {
     let mut sender = sender;
     for byte in 0..READS {
         sender.write_all(&[byte])?;
@@ -29,7 +29,7 @@ fn bytes_come_where_they_are_asked_and_where_they_are_waited_for(
 ) -> Result<(), Fail> {
     let (sender, heard) = UnixStream::pair(&rt)?;
     heard.set_read_timeout(Some(Duration::from_millis(1)))?;
-    let mut reader = Polling::new(&heard);
+    let mut reader = Polling::new(heard);
     assert!(rt; exchange(&sender, &mut reader)?);
     let mut room = [0; 3];
     match reader.read(&mut room) {
