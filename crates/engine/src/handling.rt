@@ -48,7 +48,7 @@ fn init_reply_of(answer: Negotiated) -> ReplyBody
 }
 
 /// Whether a version is agreed on after this answer to an INIT, or was before.
-fn agrees(answer: Negotiated, before: bool) -> bool
+pub fn agrees(answer: Negotiated, before: bool) -> bool
     ensures { result ≡ agrees answer before }
 {
     match answer {
@@ -58,7 +58,7 @@ fn agrees(answer: Negotiated, before: bool) -> bool
 }
 
 /// The result of negotiation, if the operation is an INIT.
-fn negotiated_by(operation: Operation<'_>) -> Option<Negotiated>
+pub fn negotiated_by(operation: Operation<'_>) -> Option<Negotiated>
     ensures { result ≡ negotiated_by operation.entry }
 {
     match operation {

@@ -25,6 +25,7 @@ pub use bytes::{ReplyBytes, SHORT_REPLY};
 pub use classes::{Class, ClassedFrame, class_of};
 pub use concluding::give_up;
 pub use ends::SessionEnd;
+pub use handling::{agrees, negotiated_by};
 pub use laws::unserved_are_refused;
 pub use links::{Link, LinkIn, LinkOut, Received, Sent};
 pub use ops::Settings;

@@ -5,25 +5,17 @@ ghost use Rattle.engine.specs.Reference.{negotiated_by};
 ghost use Rattle.engine_turns.specs.Verdicts.{greeted, EndsSession, IsVerdict};
 
 use crate::job::Job;
-use engine::Class;
+use engine::{Class, agrees, negotiated_by};
 use terms::Names;
-use wire::{Negotiated, Operation, decode, negotiate};
+use wire::{Operation, decode};
 
 /// Whether a version is agreed on by an operation, or was before.
 fn greeted(operation: Operation<'_>, before: bool) -> bool
     ensures { result ≡ greeted (negotiated_by operation.entry) before }
 {
-    match operation {
-        Operation::Init {
-            major,
-            minor,
-            max_readahead,
-            flags,
-        } => match negotiate(major, minor, max_readahead, flags) {
-            Negotiated::Use(_) => true,
-            Negotiated::Again(_) | Negotiated::Refuse => before,
-        },
-        _ => before,
+    match negotiated_by(operation) {
+        Some(answer) => agrees(answer, before),
+        None => before,
     }
 }
 
