@@ -10,6 +10,7 @@ use std::sync::atomic::{AtomicU32, Ordering};
 use std::sync::{Arc, Wait};
 use std::test::Fail;
 use std::thread;
+use std::time::{Clock, Duration};
 use wire::Operation::{Destroy, Lookup, Unlink};
 
 /// How often a first call polls before it gives up.
@@ -77,13 +78,17 @@ fn meeting<H: Wait + Drop>(
     Ok(trees)
 }
 
+/// How many milliseconds a slow call takes: longer than the other worker needs to begin, also where other programs run.
+const SLOW: u64 = 50;
+
 /// A handle to a tree whose calls take a while.
 #[derive(Drop)]
-struct Slowed<H: Wait + Drop> {
+struct Slowed<H: Wait + Clock + Drop> {
     tree: Shared<H>,
+    clock: H,
 }
 
-impl<H: Wait + Drop> Calls for Slowed<H> {
+impl<H: Wait + Clock + Drop> Calls for Slowed<H> {
     ghost use Rattle.backing.specs.KnownTreeLemmas.{shared_counts};
     ghost use Rattle.backing.specs.SharedTree.{Shows};
 
@@ -94,9 +99,7 @@ impl<H: Wait + Drop> Calls for Slowed<H> {
     ghost counts = { λ old new call answer shown. shared_counts old.tree new.tree call answer shown };
 
     fn call(&mut self, call: Call<'_>) -> Answer {
-        for _look in 0..200_000u32 {
-            thread::yield_now();
-        }
+        thread::sleep(&self.clock, Duration::from_millis(SLOW));
         self.tree.call(call)
     }
 }
@@ -126,7 +129,8 @@ const SAME_NAME: Story = Story {
 fn a_request_waits_for_another(rt: HostRuntime) -> Result<(), Fail> {
     let mut trees = Vec::new(rt.alloc());
     for tree in holds_of(&rt, rt.alloc(), SAME_NAME.workers)? {
-        trees.push(Slowed { tree })?;
+        let clock = rt.clone()?;
+        trees.push(Slowed { tree, clock })?;
     }
     check_by(&rt, rt.alloc(), &SAME_NAME, trees)
 }

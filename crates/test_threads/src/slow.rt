@@ -10,18 +10,20 @@ use std::alloc::{AllocError, Global};
 use std::sync::Wait;
 use std::test::Fail;
 use std::thread;
+use std::time::{Clock, Duration};
 use wire::Operation::Lookup;
 
-/// How often it yields before it takes a reply.
-const YIELDS: u32 = 100;
+/// How many microseconds it takes to take a reply.
+const SLOW: u64 = 100;
 
 /// Takes each reply after a while.
 #[derive(Drop)]
-struct Slow<H: Wait + Drop> {
+struct Slow<H: Wait + Clock + Drop> {
     hears: Hears<H>,
+    clock: H,
 }
 
-impl<H: Wait + Drop> LinkOut for Slow<H> {
+impl<H: Wait + Clock + Drop> LinkOut for Slow<H> {
     ghost use Rattle.engine.specs.Links.{counted, missed};
 
     ghost sends = { λ old _ sent new. new.hears.failures ≡ counted old.hears.failures (missed sent) };
@@ -31,23 +33,24 @@ impl<H: Wait + Drop> LinkOut for Slow<H> {
     ghost counts_sends = { λ _ _ _ _ counts. counts };
 
     fn send(&mut self, frame: &[u8]) -> Sent {
-        for _ in 0..YIELDS {
-            thread::yield_now();
-        }
+        thread::sleep(&self.clock, Duration::from_micros(SLOW));
         self.hears.send(frame)
     }
 }
 
 /// The client of a story that takes replies slowly.
-fn slow_client<H: Wait + Clone + Drop>(
+fn slow_client<H: Wait + Clock + Clone + Drop>(
     rt: &H,
     alloc: Global,
     story: &Story<'_>,
 ) -> Result<Client<H, Slow<H>>, AllocError> {
     let Client { asks, hears, heard } = client_of(rt, alloc, story)?;
+    let Ok(clock) = rt.clone() else {
+        return Err(AllocError);
+    };
     Ok(Client {
         asks,
-        hears: Slow { hears },
+        hears: Slow { hears, clock },
         heard,
     })
 }
