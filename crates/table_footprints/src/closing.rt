@@ -16,7 +16,7 @@ use holds::{GivenPath, GivenPaths, Held, Paths, prefixes_of};
 use paths::Path;
 use std::alloc::{AllocError, Global};
 use table_files::Files;
-use table_requests::{Case, Givens, Pins, Promise};
+use table_requests::{Case, Givens, Names, Pins, Promise};
 use tree::Tree;
 
 /// Nothing is held, pinned or put in the ticket.
@@ -24,8 +24,8 @@ fn nothing(alloc: Global) -> Result<Reservation, FootprintRefusal>
     ensures ok { IfOk result IsNothing }
     ensures err { IfErr result (λ refusal. refusal ≡ FootprintRefusal.Memory) }
 {
-    let gathering = Gathering::new(alloc, 0)?;
-    let reservation = gathering.into_reservation(alloc, Case::Pathless, 0, 0)?;
+    let gathering = Gathering::new(alloc, 0, 0, 0)?;
+    let reservation = gathering.into_reservation(alloc, Case::Pathless, Names::new(alloc), 0, 0)?;
     Ok(reservation)
 }
 
@@ -92,6 +92,7 @@ fn last_reservation(
     pins.add(number);
     Ok(Reservation {
         case: Case::Last,
+        candidates: Names::new(alloc),
         held,
         promise: Promise {
             nodes: 0,

@@ -1,12 +1,12 @@
-use Rattle.std.proofs.Common.{◌≡◌, List, length, sym, subst, ap, ◌∙◌, arith, rules}
+use Rattle.std.proofs.Common.{◌≡◌, [], List, length, sym, subst, ap, ◌∙◌, arith, rules}
 use Rattle.std.proofs.lemmas.List.{length-map}
 use Rattle.std.proofs.lemmas.Result.{err_from_is_err_and}
-use Rattle.paths.specs.Prefixes.{Names}
+use Rattle.paths.specs.Prefixes.{Name, Names}
 use Rattle.tree.specs.Places.{at_in}
 use Rattle.table_footprints.specs.declared.refusal.FootprintRefusal.{FootprintRefusal}
 use Rattle.table_footprints.specs.declared.refusal.FootprintRefusal.TheVariants.{Memory}
 use Rattle.table_footprints.specs.Asked.{IsUnsound}
-use Rattle.table_footprints.specs.Gatherings.{IsReserved, IsShortPath, footprint_from, entered_case, refusal_errno, location_of, locations_of}
+use Rattle.table_footprints.specs.Gatherings.{IsReserved, IsShortPath, entries_of, footprint_from, entered_case, refusal_errno, location_of, locations_of}
 use Rattle.table_footprints.specs.Footprints.{births_in}
 use Rattle.table_footprints.proofs.Agreeing.{agreed, bad_refused, change_refused, enough_paths, lost_refused}
 use Rattle.table_footprints.proofs.Members.{zip_length}
@@ -51,7 +51,9 @@ returns-clause-ok c =
     let footprint = c.args.footprint.now in
     let case = c.entered_case-case.ensures in
     let births : c.births_in.result ≡ births_in (entered_case x.absent footprint.enters) = c.births_in.ensures ∙ ap births_in case in
-    let drawn : IsReserved x (entered_case x.absent footprint.enters) c.births_in.result c.from.result c.in_ok-reservation.reservation
-    = subst (λ k. IsReserved x k c.births_in.result c.from.result c.in_ok-reservation.reservation) case c.in_ok-reservation.ensures in
-    agreed (at_in c.args.tree.now) c.expect_rooted.ensures.tree footprint x c.births_in.result c.from.result c.in_ok-reservation.reservation c.requires c.in_ok-expect_rooted.ensures.ok c.in_ok-gathering.ensures.ok
-    (rw c.as_slice.ensures at c.in_ok-expect_change.ensures.ok) (search rules) births (omega (arith, c.in_ok-gathering.ensures.room)) drawn
+    let drawn : IsReserved x (entered_case x.absent footprint.enters) [] c.births_in.result c.from-entries.result c.in_ok-reservation.reservation
+    = subst (λ (names : List Name). IsReserved x (entered_case x.absent footprint.enters) names c.births_in.result c.from-entries.result c.in_ok-reservation.reservation) c.new.ensures
+        (subst (λ k. IsReserved x k c.new.result c.births_in.result c.from-entries.result c.in_ok-reservation.reservation) case c.in_ok-reservation.ensures) in
+    let counted : c.from-entries.result ≡ entries_of footprint = search rules in
+    agreed (at_in c.args.tree.now) c.expect_rooted.ensures.tree footprint x c.births_in.result c.from-entries.result c.in_ok-reservation.reservation c.requires c.in_ok-expect_rooted.ensures.ok c.in_ok-gathering.ensures.ok
+    (rw c.as_slice.ensures at c.in_ok-expect_change.ensures.ok) counted births (omega (arith, counted, c.in_ok-gathering.ensures.room)) drawn
