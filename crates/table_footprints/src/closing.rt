@@ -24,7 +24,7 @@ fn nothing(alloc: Global) -> Result<Reservation, FootprintRefusal>
     ensures ok { IfOk result IsNothing }
     ensures err { IfErr result (λ refusal. refusal ≡ FootprintRefusal.Memory) }
 {
-    let gathering = Gathering::new(alloc, 0, 0, 0)?;
+    let gathering = Gathering::new(alloc, 0)?;
     let reservation = gathering.into_reservation(alloc, Case::Pathless, Names::new(alloc), 0, 0)?;
     Ok(reservation)
 }

@@ -81,14 +81,6 @@ fn births_in(case: Case) -> u64
     }
 }
 
-/// How many of the paths are held exclusively.
-fn exclusive_in(hold: HoldMode, paths: usize) -> usize {
-    match hold {
-        HoldMode::Shared => 0,
-        HoldMode::Exclusive => paths,
-    }
-}
-
 /// An empty list with room for that many paths, as far as they need an allocation.
 fn room_for(alloc: Global, paths: usize) -> Result<Paths, AllocError>
     ensures { IfOk result (λ list. list ≡ []) }
@@ -100,8 +92,23 @@ fn room_for(alloc: Global, paths: usize) -> Result<Paths, AllocError>
 }
 
 impl Gathering {
-    /// Nothing yet, with room for `pins` pins, `paths` paths and `exclusive` paths that are held exclusively.
-    pub(crate) fn new(
+    /// Nothing yet, with room for `pins` pins.
+    pub(crate) fn new(alloc: Global, pins: usize) -> Result<Gathering, AllocError>
+        ensures { IfOk result (IsNoGathering pins) }
+    {
+        let pins = Pins::with_capacity(alloc, pins)?;
+        Ok(Gathering {
+            given: GivenPaths::new(),
+            shared: Paths::new(),
+            exclusive: Paths::new(),
+            pins,
+            paths: Paths::new(),
+            absent: false,
+        })
+    }
+
+    /// The same, with room for `paths` paths too, and for `exclusive` that are held exclusively.
+    pub(crate) fn with_room(
         alloc: Global,
         pins: usize,
         paths: usize,
@@ -109,9 +116,9 @@ impl Gathering {
     ) -> Result<Gathering, AllocError>
         ensures { IfOk result (IsNoGathering pins) }
     {
-        let pins = Pins::with_capacity(alloc, pins)?;
-        let exclusive = room_for(alloc, exclusive)?;
         let paths = room_for(alloc, paths)?;
+        let exclusive = room_for(alloc, exclusive)?;
+        let pins = Pins::with_capacity(alloc, pins)?;
         Ok(Gathering {
             given: GivenPaths::new(),
             shared: Paths::new(),
@@ -238,29 +245,27 @@ fn with_file(reservation: Reservation) -> Reservation
     }
 }
 
-/// What is found at the locations, which lead to the root. There is room for that many pins and paths in all, with two
-/// pins for each of these locations.
-pub(crate) fn gathering_of(
+/// Adds what is found at the locations, which lead to the root, to an empty gathering.
+pub(crate) fn gather(
     alloc: Global,
     tree: &Tree,
+    gathering: &mut Gathering,
     locations: &[Location],
     hold: HoldMode,
-    pins: usize,
-    paths: usize,
-) -> Result<Gathering, FootprintRefusal>
+) -> Result<(), FootprintRefusal>
     requires tree { IsTree (at_in tree.now) }
     requires rooted { AreRooted (at_in tree.now) (told locations.now) }
-    requires enough { 2 * length locations.now ≤ pins }
-    ensures ok { IfOk result (IsGathering (at_in tree.now) hold (told locations.now)) }
-    ensures room { IfOk result (λ gathering. pins ≤ gathering.pins.room + 2 * length locations.now) }
+    requires empty { IsNoGathering gathering.old.pins.room gathering.old }
+    requires enough { 2 * length locations.now ≤ gathering.old.pins.room }
+    ensures ok { OnOk result (IsGathering (at_in tree.now) hold (told locations.now) gathering.new) }
+    ensures room { OnOk result (gathering.old.pins.room ≤ gathering.new.pins.room + 2 * length locations.now) }
     ensures err { IfErr result (IsBadFootprint (at_in tree.now) (told locations.now)) }
 {
-    let mut gathering = Gathering::new(alloc, pins, paths, exclusive_in(hold, paths))?;
     for location in locations {
         let found = find(alloc, tree, location)?;
         gathering.add(alloc, location.base(), found, hold)?;
     }
-    Ok(gathering)
+    Ok(())
 }
 
 /// What the footprint reserves, if the tests of the nodes allow it.
@@ -277,15 +282,14 @@ pub(crate) fn reservation_of(
 {
     // All parents are tested before any path, so a cut or unknown one is ESTALE whatever the other path is.
     expect_rooted(tree, footprint.locations)?;
-    let locations = footprint.locations.len();
     let entries = usize::from(footprint.enters);
-    let gathering = gathering_of(
+    let mut gathering = Gathering::new(alloc, 2 * footprint.locations.len() + entries)?;
+    gather(
         alloc,
         tree,
+        &mut gathering,
         footprint.locations,
         footprint.hold,
-        2 * locations + entries,
-        locations,
     )?;
     expect_change(footprint.change, gathering.paths.as_slice())?;
     let case = entered_case(gathering.absent, footprint.enters);

@@ -117,8 +117,6 @@ fn recorded(alloc: Global, want: Want, reservation: Reservation) -> Result<NewRe
     requires { reservation.candidates ≡ hidden_in reservation.case }
     ensures { IfOk result (IsRecord want reservation) }
 {
-    let copy = copied(&want)?;
-    let copies = copies(alloc, &want, reservation.case, &reservation.candidates)?;
     let Reservation {
         case,
         candidates,
@@ -128,6 +126,8 @@ fn recorded(alloc: Global, want: Want, reservation: Reservation) -> Result<NewRe
         pins,
         paths,
     } = reservation;
+    let copy = copied(&want)?;
+    let copies = copies(alloc, &want, case, &candidates)?;
     let work = Work {
         want,
         case,

@@ -55,7 +55,7 @@ fn folder_draft(
     ensures room { IfOk result (λ gathering. 2 * names ≤ gathering.pins.room) }
     ensures err { IfErr result (IsBadFootprint (at_in tree.now) (AtNode folder ∷ [])) }
 {
-    let mut gathering = Gathering::new(alloc, 2 * names + 2, names.saturating_add(1), 0)?;
+    let mut gathering = Gathering::with_room(alloc, 2 * names + 2, names.saturating_add(1), 0)?;
     let found = find(alloc, tree, &Location::AtNode(folder))?;
     gathering.add(alloc, folder, found, HoldMode::Shared)?;
     Ok(gathering)

@@ -12,7 +12,7 @@ ghost use Rattle.table_footprints.specs.Footprints.{AtName, hidden_in, hidden_na
 
 use crate::footprints::{HoldMode, Location, UniformFootprint};
 use crate::found::{AtLocation, expect_change, expect_rooted, find};
-use crate::gatherings::{Gathering, Reservation, gathering_of};
+use crate::gatherings::{Gathering, Reservation, gather};
 use crate::in_folder::{FoundName, find_in, folder_path};
 use crate::pages::pin_found;
 use crate::refusal::FootprintRefusal;
@@ -104,16 +104,11 @@ fn going_draft(
     ensures room { IfOk result (λ gathering. more ≤ gathering.pins.room) }
     ensures err { IfErr result (IsBadFootprint (at_in tree.now) (going_locations gone.now)) }
 {
-    let hold = HoldMode::Exclusive;
     let locations = gone.firsts.len() + 1;
-    let mut gathering = gathering_of(
-        alloc,
-        tree,
-        gone.firsts,
-        hold,
-        2 * locations + more,
-        locations + more,
-    )?;
+    let paths = locations + more;
+    let mut gathering = Gathering::with_room(alloc, locations + paths, paths, paths)?;
+    let hold = HoldMode::Exclusive;
+    gather(alloc, tree, &mut gathering, gone.firsts, hold)?;
     gathering.add(alloc, gone.parent, found, hold)?;
     Ok(gathering)
 }

@@ -1,6 +1,5 @@
 use Rattle.std.proofs.Common.{◌+◌, ◌≤◌, ◌++◌, length, take}
 use Rattle.tree.specs.Places.{at_in}
-use Rattle.table_footprints.specs.InFolder.{IsFolderPath}
 use Rattle.table_footprints.specs.Removals.{IsGathered, going_locations}
 use Rattle.table_footprints.specs.Footprints.{names_under}
 use Rattle.table_footprints.proofs.removals.gathered.Given as goal
