@@ -142,6 +142,8 @@ fn path_reservation(
 }
 
 /// What closing a file of the node reserves. Out of memory is the only error.
+// In the caller its locals would be set up for every other want too.
+#[inline(never)]
 pub(crate) fn closing_reservation(
     alloc: Global,
     tree: &Tree,

@@ -84,6 +84,8 @@ fn page_draft(
 }
 
 /// What a page of these names reserves, if the tests of the nodes allow it.
+// In the caller its locals would be set up for every other want too.
+#[inline(never)]
 pub(crate) fn page_reservation(
     alloc: Global,
     tree: &Tree,

@@ -53,6 +53,8 @@ fn hiding_case(files: &Files, counter: u32, may_hide: bool, found: Option<u64>) 
 
 #[tactic(auto, unfolding(crate::specs::Footprints::hidden_names))]
 /// The ten candidates, from that counter on, under which a file of the node may be hidden.
+// Few names that go are those of open files.
+#[inline(never)]
 fn candidates_of(alloc: Global, number: u64, counter: u32) -> Result<Names, AllocError>
     ensures { IfOk result (λ names. names ≡ hidden_names number counter 10) }
 {
