@@ -115,7 +115,31 @@ fn going_draft(
     Ok(gathering)
 }
 
-/// The same, and what is found at the other names in the same folder.
+/// Adds what is found at the other names in the same folder.
+// Few names that go have others beside them.
+#[inline(never)]
+fn add_candidates(
+    alloc: Global,
+    tree: &Tree,
+    gathering: &mut Gathering,
+    gone: &Gone,
+    beside: &[Name],
+) -> Result<(), FootprintRefusal>
+    requires tree { IsTree (at_in tree.now) }
+    requires gathering { IsGathering (at_in tree.now) HoldMode.Exclusive (going_locations gone.now) gathering.old }
+    requires room { length beside.now ≤ gathering.old.pins.room }
+    ensures ok { OnOk result (IsGathered (at_in tree.now) (going_locations gone.now) (going_locations gone.now ++ names_under gone.now.parent beside.now) gathering.new) }
+    ensures err { IfErr result (IsBadFootprint (at_in tree.now) (going_locations gone.now ++ names_under gone.now.parent beside.now)) }
+{
+    let place = folder_path(gathering.given.as_slice(), gone.parent)?;
+    for other in beside {
+        let found = find_in(alloc, tree, gone.parent, &place, other)?;
+        add_beside(alloc, gathering, found)?;
+    }
+    Ok(())
+}
+
+/// What is found at the locations of the footprint, and at the other names in the same folder.
 fn gathered(
     alloc: Global,
     tree: &Tree,
@@ -134,11 +158,7 @@ fn gathered(
     if beside.is_empty() {
         return Ok(gathering);
     }
-    let place = folder_path(gathering.given.as_slice(), gone.parent)?;
-    for other in beside {
-        let found = find_in(alloc, tree, gone.parent, &place, other)?;
-        add_beside(alloc, &mut gathering, found)?;
-    }
+    add_candidates(alloc, tree, &mut gathering, gone, beside)?;
     Ok(gathering)
 }
 

@@ -2,7 +2,7 @@ use Rattle.std.proofs.Common.{◌+◌, ◌≤◌, ◌++◌, length, take}
 use Rattle.tree.specs.Places.{at_in}
 use Rattle.table_footprints.specs.Removals.{IsGathered, going_locations}
 use Rattle.table_footprints.specs.Footprints.{names_under}
-use Rattle.table_footprints.proofs.removals.gathered.Given as goal
+use Rattle.table_footprints.proofs.removals.add_candidates.Given as goal
 
 abbrev pub invariant-loop-other : goal.invariant-loop-other
 invariant-loop-other l = record {
