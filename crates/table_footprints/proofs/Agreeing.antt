@@ -17,7 +17,7 @@ use Rattle.table_footprints.specs.Asked.{ArePaths, HasPath, Holds, IsAboveAt, Is
 use Rattle.table_footprints.specs.Gatherings.{AreEnough, AreExchangeable, AreNames, AreRooted, CanMove, IsAgreed, IsBadFootprint, IsCaseOf, IsGathering, IsReserved, IsEntered, IsFit, IsLongPath, IsLost, IsOwnAt, IsPinAt, IsRootedAt, IsSharedAt, IsShortPath, IsTaken, HasNoNode, IsWrongChange, MayChange, exclusive_in, change_in, footprint_by, entered_case, entries_of, refusal_errno, key_in, locations_of}
 use Rattle.table_footprints.specs.Laws.{base_of}
 use Rattle.table_requests.specs.declared.data.Case.{Case}
-use Rattle.table_footprints.specs.Footprints.{Location, AtName, AtNode, births_in}
+use Rattle.table_footprints.specs.Footprints.{Location, AtName, AtNode, births_in, hidden_in}
 use Rattle.table_requests.specs.declared.data.Promise.{Promise}
 use Rattle.table_requests.specs.Roomy.{Listed, Pinned}
 use Rattle.holds.specs.declared.held.Held.{Held}
@@ -228,6 +228,12 @@ promise_for true false [] hold change entered = absurd entered
 promise_for true false (AtNode n ∷ ls) hold change entered = promise_for true false ls hold change entered
 promise_for true false (AtName parent name ∷ ls) hold change entered = refl
 
+-- a file is not hidden for an entry
+pub none_hidden : (none enters : Bool) → [] ≡ hidden_in (entered_case none enters)
+none_hidden true true = refl
+none_hidden true false = refl
+none_hidden false enters = refl
+
 -- the first two of several paths
 pub may_move : (paths : List Names) (p q : Names) → 2 ≤ length paths → p ≡ get_or paths 0 p → q ≡ get_or paths 1 q → CanMove p q → MayChange Moves paths
 may_move [] p q two a b can = tt
@@ -249,7 +255,7 @@ pub enough_paths : (change : told_change.ChangeKind) (m n : ℕ) → m ≡ n →
 enough_paths change m n e h = subst (λ k. AreEnough change k) e h
 
 pub agreed : (at : Lookup) → IsTree at → (footprint : UniformFootprint) (x : Gathering) (births entries : ℕ) (t : Reservation) → IsFit footprint → AreRooted at (locations_of footprint) → IsGathering at footprint.hold (locations_of footprint) x → MayChange footprint.change x.paths
-    → entries ≡ entries_of footprint → births ≡ births_in (entered_case x.absent footprint.enters) → entries_of footprint ≤ x.pins.room → IsReserved x (entered_case x.absent footprint.enters) births entries t → IsAgreed at footprint t
+    → entries ≡ entries_of footprint → births ≡ births_in (entered_case x.absent footprint.enters) → entries_of footprint ≤ x.pins.room → IsReserved x (entered_case x.absent footprint.enters) [] births entries t → IsAgreed at footprint t
 agreed at tree footprint x births entries t fit rooted is may e b room drawn =
     let ls = locations_of footprint in
     let c = t.case in
@@ -268,5 +274,6 @@ agreed at tree footprint x births entries t fit rooted is may e b room drawn =
         pin_room = subst (λ (p : Pinned). length (if footprint.enters then key_in ls else []) ≤ p.room) (sym drawn.pins) (subst (λ n. n ≤ x.pins.room) (sym few) room);
         answer_room = subst (λ (g : Listed). length (if footprint.enters then key_in ls else []) ≤ g.room) (sym drawn.answer) (omega (arith, few, e));
         unanswered = ap (λ (g : Listed). g.items) drawn.answer;
+        candidates = drawn.candidates_are ∙ (none_hidden x.absent footprint.enters ∙ ap (λ (k : Case). hidden_in k) (sym drawn.case_is));
       };
     }

@@ -16,7 +16,7 @@ use Rattle.tree.specs.Places.{Lookup, IsPathOf, IsTree, Leads, Reaches}
 use Rattle.table_footprints.specs.declared.gatherings.Reservation.{Reservation}
 use Rattle.table_footprints.specs.Asked.{HasPath, Holds, IsAboveAt, IsLong, IsPin, IsPrefixAt, IsStale, IsThere}
 use Rattle.table_footprints.specs.Gatherings.{IsClosingPath, IsHeldExclusively, IsReservation}
-use Rattle.table_footprints.specs.Footprints.{Footprint, AtNode, closed_footprint}
+use Rattle.table_footprints.specs.Footprints.{Footprint, AtNode, closed_footprint, hidden_in}
 use Rattle.table_footprints.proofs.Agreeing.{prefix_above}
 use Rattle.table_footprints.proofs.Finding.{location_once}
 use Rattle.table_footprints.proofs.Members.{any_first, any_none, any_only, first_in, only_in}
@@ -98,9 +98,9 @@ module _ (at : Lookup) (tree : IsTree at) (number : ℕ) (path : Names) (leads :
     ]),
   )
 
-  pub last_agreed : (t : Reservation) → path_bytes path ≤ 4096 → t.case ≡ cases.Last → IsHeldExclusively at number path t.held → (let p : Promise = record { nodes = 0; postings = 0; files = 0 } in t.promise ≡ p) → t.answer.items ≡ [] → t.pins.numbers ≡ number ∷ []
+  pub last_agreed : (t : Reservation) → path_bytes path ≤ 4096 → t.case ≡ cases.Last → t.candidates ≡ [] → IsHeldExclusively at number path t.held → (let p : Promise = record { nodes = 0; postings = 0; files = 0 } in t.promise ≡ p) → t.answer.items ≡ [] → t.pins.numbers ≡ number ∷ []
       → t.paths ≡ path ∷ [] → IsClosingPath at number true t
-  last_agreed t short case_is held promise answer pins paths = record {
+  last_agreed t short case_is candidates held promise answer pins paths = record {
     case_is = case_is;
     short = (path, leads, short);
     reservation = subst (λ (c : Case). IsReservation at (closed_footprint number c) t) (sym case_is) (record {
@@ -112,5 +112,6 @@ module _ (at : Lookup) (tree : IsTree at) (number : ℕ) (path : Names) (leads :
       pin_room = omega arith;
       answer_room = omega arith;
       unanswered = answer;
+      candidates = candidates ∙ ap (λ (k : Case). hidden_in k) (sym case_is);
     });
   }

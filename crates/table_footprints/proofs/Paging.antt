@@ -11,6 +11,7 @@ use Rattle.holds.specs.declared.held.Held.{Held}
 use Rattle.tree.specs.declared.nodes.Key.{Key}
 use Rattle.tree.specs.Places.{Lookup, IsTree, Leads}
 use Rattle.table_footprints.specs.declared.gatherings.Gathering.{Gathering}
+use Rattle.table_requests.specs.declared.data.Case.{Case}
 use Rattle.table_requests.specs.declared.data.Case.TheVariants as cases
 use Rattle.table_footprints.specs.declared.gatherings.Reservation.{Reservation}
 use Rattle.table_footprints.specs.declared.found.AtLocation.{AtLocation}
@@ -19,8 +20,10 @@ use Rattle.table_footprints.specs.declared.refusal.FootprintRefusal.TheVariants 
 use Rattle.table_footprints.specs.declared.footprints.HoldMode.TheVariants.{Shared}
 use Rattle.table_footprints.specs.Asked.{ArePaths, HasPath, Holds, IsAboveAt, IsLong, IsPin, IsStale, IsThere, IsUnsound, long, no_memory, stale}
 use Rattle.table_footprints.specs.Gatherings.{Adds, IsBadFootprint, IsGathering, IsReserved, IsFound, IsLongPath, IsNoGathering, IsPinAt, IsShortPath, IsReservation, refusal_errno}
+use Rattle.table_footprints.specs.declared.in_folder.FoundName.{FoundName}
+use Rattle.table_footprints.specs.InFolder.{IsNameFound}
 use Rattle.table_footprints.specs.Pages.{AddsName, IsPage}
-use Rattle.table_footprints.specs.Footprints.{Location, AtName, AtNode, page_keys, page_names, page_footprint}
+use Rattle.table_footprints.specs.Footprints.{Location, AtName, AtNode, hidden_in, page_keys, page_names, page_footprint}
 use Rattle.table_footprints.proofs.Agreeing.{paths_for}
 use Rattle.table_footprints.proofs.Gathering.{draft_more, draft_none}
 use Rattle.table_footprints.proofs.Finding.{location_once}
@@ -61,7 +64,7 @@ module _ (at : Lookup) (tree : IsTree at) (folder : ℕ) where
       }
 
   -- one more name
-  pub page_more : (ls : List Location) (l : Location) (f : AtLocation) (old new : Gathering) → IsPage at folder ls old → IsFound at l f → AddsName old f new → IsPage at folder (ls ++ l ∷ []) new
+  pub page_more : (ls : List Location) (l : Location) (f : FoundName) (old new : Gathering) → IsPage at folder ls old → IsNameFound at l f → AddsName old f new → IsPage at folder (ls ++ l ∷ []) new
   page_more ls l f old new is found adds = record {
     numbers = ap (λ (leads : List GivenPath). map (λ (lead : GivenPath). lead.number) leads) adds.given ∙ is.numbers;
     leads = rw adds.given is.leads;
@@ -131,7 +134,7 @@ module _ (at : Lookup) (tree : IsTree at) (folder : ℕ) where
       λ h. (is.pins n).1 (elim h [ inl named ↦ inl (only_in folder n named) | inr there ↦ inr there ]),
     )
 
-    pub page_agreed : (x : Gathering) (t : Reservation) → Leads at folder → IsPage at folder (page_names folder names) x → length names ≤ x.pins.room → IsReserved x cases.Plain (length names) (length names) t → IsReservation at (page_footprint folder names) t
+    pub page_agreed : (x : Gathering) (t : Reservation) → Leads at folder → IsPage at folder (page_names folder names) x → length names ≤ x.pins.room → IsReserved x cases.Plain [] (length names) (length names) t → IsReservation at (page_footprint folder names) t
     page_agreed x t leads is room drawn = record {
       sound = record { not_stale = page_rooted leads; not_long = page_short x.paths is.paths; not_misplaced = λ e bad. bad };
       holds = subst (λ (held : Held). Holds at (page_footprint folder names) held) (sym drawn.held) (page_holds x is);
@@ -141,4 +144,5 @@ module _ (at : Lookup) (tree : IsTree at) (folder : ℕ) where
       pin_room = subst (λ (p : Pinned). length (page_keys folder names) ≤ p.room) (sym drawn.pins) (subst (λ n. n ≤ x.pins.room) (sym many) room);
       answer_room = subst (λ (g : Listed). length (page_keys folder names) ≤ g.room) (sym drawn.answer) (omega (arith, many));
       unanswered = ap (λ (g : Listed). g.items) drawn.answer;
+      candidates = drawn.candidates_are ∙ ap (λ (k : Case). hidden_in k) (sym drawn.case_is);
     }

@@ -191,5 +191,6 @@ closing_wanted seen want number fh t is it = subst (λ (v : Want). IsWanted seen
     pin_room = it.reservation.pin_room;
     answer_room = it.reservation.answer_room;
     unanswered = it.reservation.unanswered;
+    candidates = it.reservation.candidates;
   };
 })

@@ -4,8 +4,8 @@ use Rattle.std.proofs.Common.{ℕ, ℤ, ◌+◌, ◌≤◌, ◌<◌, ◌≡◌, 
 use Rattle.std.specs.Prelude.{Any, map}
 use Rattle.std.specs.List.{AllZip}
 use Rattle.std.proofs.lemmas.Bool.{cases_Bool, false≢true}
-use Rattle.std.proofs.lemmas.List.{append-nil, append_assoc, length-append, map-append, take_more}
-use Rattle.std.proofs.lemmas.List.Elements.{Contains-append_cases, Contains-append_left, Contains-append_right}
+use Rattle.std.proofs.lemmas.List.{append-nil, append_assoc, get_or_append_left, length-append, map-append, take_more}
+use Rattle.std.proofs.lemmas.List.Elements.{Contains-append_cases, Contains-append_left, Contains-append_right, Contains-push}
 use Rattle.table_files.specs.Handles.{AreOpenEntries, IsOpen, Opened}
 use Rattle.table_requests.specs.declared.data.Case.{Case}
 use Rattle.table_requests.specs.declared.data.Case.TheVariants as cases
@@ -16,17 +16,18 @@ use Rattle.paths.specs.Prefixes.{Name, Names, path_bytes}
 use Rattle.tree.specs.Places.{Lookup, IsCensus, IsNamed, IsTree, Leads}
 use Rattle.table_footprints.specs.declared.gatherings.Gathering.{Gathering}
 use Rattle.table_footprints.specs.declared.gatherings.Reservation.{Reservation}
-use Rattle.table_footprints.specs.declared.found.AtLocation.{AtLocation}
+use Rattle.table_footprints.specs.declared.in_folder.FoundName.{FoundName}
 use Rattle.table_footprints.specs.declared.refusal.FootprintRefusal.{FootprintRefusal}
 use Rattle.table_footprints.specs.declared.refusal.FootprintRefusal.TheVariants as refusal
 use Rattle.table_footprints.specs.declared.footprints.ChangeKind as told_change
 use Rattle.table_footprints.specs.declared.footprints.HoldMode.TheVariants.{Exclusive}
 use Rattle.table_footprints.specs.Asked.{ArePaths, HasPath, Holds, IsAboveAt, IsLong, IsPin, IsPrefixAt, IsStale, IsThere, IsUnsound, long, misplaced, no_memory, stale}
 use Rattle.table_footprints.specs.Cases.{IsHidingCase}
-use Rattle.table_footprints.specs.Gatherings.{AreEnough, AreNames, AreRooted, IsBadFootprint, IsGathering, IsReserved, IsFound, IsLongPath, IsLost, IsPinAt, IsRootedAt, IsSharedAt, IsShortPath, IsReservation, IsWrongChange, MayChange, refusal_errno}
+use Rattle.table_footprints.specs.Gatherings.{AreEnough, AreNames, AreRooted, IsBadFootprint, IsGathering, IsReserved, IsLongPath, IsLost, IsPinAt, IsRootedAt, IsSharedAt, IsShortPath, IsReservation, IsWrongChange, MayChange, refusal_errno}
+use Rattle.table_footprints.specs.InFolder.{IsNameFound}
 use Rattle.table_footprints.specs.Laws.{base_of}
 use Rattle.table_footprints.specs.Removals.{AddsBeside, IsGathered, going_in}
-use Rattle.table_footprints.specs.Footprints.{Footprint, Location, AtName, AtNode, names_under}
+use Rattle.table_footprints.specs.Footprints.{Footprint, Location, AtName, AtNode, hidden_in, names_under}
 use Rattle.table_footprints.proofs.Agreeing.{above_back, aboves_back, aboves_forth, changed_wrong, enough_more, not_misplaced, paths_for}
 use Rattle.table_footprints.proofs.Finding.{location_once}
 use Rattle.table_footprints.proofs.Members.{all_in, any_in, any_none, any_push, contains_push, in_any, in_map, map_in, zip_in, zip_length, zip_push}
@@ -84,6 +85,14 @@ module _ (ls : List Location) (folder : ℕ) where
 any_more : (P : Location → Type 0) (ls more : List Location) → Any P ls → Any P (ls ++ more)
 any_more P ls more h = let it = in_any P ls h in any_in P (ls ++ more) it.0 (Contains-append_left ls more it.0 it.1) it.2
 
+-- the first of several locations lead to the root
+pub rooted_less : (at : Lookup) (ls more : List Location) → AreRooted at (ls ++ more) → AreRooted at ls
+rooted_less at ls more rooted k l within = subst (IsRootedAt at) (get_or_append_left ls more l k within) (rooted k l (omega (arith, within, length-append ls more)))
+
+-- the node of the last location
+pub under_last : (ls : List Location) (parent : ℕ) (name : Name) → Contains (map (λ l. base_of l) (ls ++ AtName parent name ∷ [])) parent
+under_last ls parent name = map_in (λ l. base_of l) (ls ++ AtName parent name ∷ []) (AtName parent name) (Contains-push ls (AtName parent name))
+
 pub bad_more : (at : Lookup) (ls more : List Location) (r : FootprintRefusal) → IsBadFootprint at ls r → IsBadFootprint at (ls ++ more) r
 bad_more at ls more refusal.Stale bad = absurd bad
 bad_more at ls more refusal.TooLong bad = any_more (IsLongPath at) ls more bad
@@ -116,7 +125,7 @@ gathered_start at ls x is = record {
 }
 
 -- one more name in the folder
-pub gathered_more : (at : Lookup) → IsTree at → (ls all : List Location) (l : Location) (f : AtLocation) (old new : Gathering) → IsGathered at ls all old → IsFound at l f → AddsBeside old f new → IsGathered at ls (all ++ l ∷ []) new
+pub gathered_more : (at : Lookup) → IsTree at → (ls all : List Location) (l : Location) (f : FoundName) (old new : Gathering) → IsGathered at ls all old → IsNameFound at l f → AddsBeside old f new → IsGathered at ls (all ++ l ∷ []) new
 gathered_more at tree ls all l f old new is found adds = record {
   numbers = ap (λ (leads : List GivenPath). map (λ (lead : GivenPath). lead.number) leads) adds.given ∙ is.numbers;
   leads = rw adds.given is.leads;
@@ -211,8 +220,8 @@ module _ (at : Lookup) (tree : IsTree at) (ls : List Location) (change : told_ch
     exclusive = is.exclusive;
   }
 
-  pub going_agreed : (x : Gathering) (case : Case) (t : Reservation) → AreRooted at ls → Contains (map (λ l. base_of l) ls) folder → AreNames ls → IsGathered at ls all x → MayChange change x.paths → IsReserved x case 0 0 t → IsReservation at d t
-  going_agreed x case t rooted under names is may drawn = record {
+  pub going_agreed : (x : Gathering) (case : Case) (t : Reservation) → AreRooted at ls → Contains (map (λ l. base_of l) ls) folder → AreNames ls → IsGathered at ls all x → MayChange change x.paths → IsReserved x case hidden 0 0 t → hidden ≡ hidden_in case → IsReservation at d t
+  going_agreed x case t rooted under names is may drawn hides = record {
     sound = record { not_stale = going_rooted rooted; not_long = going_short x.paths is.paths; not_misplaced = not_misplaced at tree change all x.paths is.paths may };
     holds = subst (λ (held : Held). Holds at d held) (sym drawn.held) (going_holds under names x is);
     pins = subst (λ (p : Pinned). (n : ℕ) → Contains p.numbers n ↔ IsPin at d n) (sym drawn.pins) is.pins;
@@ -221,6 +230,7 @@ module _ (at : Lookup) (tree : IsTree at) (ls : List Location) (change : told_ch
     pin_room = omega arith;
     answer_room = omega arith;
     unanswered = ap (λ (g : Listed). g.items) drawn.answer;
+    candidates = drawn.candidates_are ∙ (hides ∙ ap (λ (k : Case). hidden_in k) (sym drawn.case_is));
   }
 
   -- there are enough paths for the change

@@ -123,6 +123,7 @@ terms_using at d u t reservation = record {
   pin_room = reservation.pin_room;
   answer_room = reservation.answer_room;
   unanswered = reservation.unanswered;
+  candidates = reservation.candidates;
 }
 
 pub node_wanted : (seen : Seen) (want : Want) (number : ℕ) (handle : Option Handle) (t : Reservation) → want ≡ wants.Node number handle → t.case ≡ cases.Plain → IsReservation seen.at (node_footprint number) t → IsWanted seen want t
@@ -160,6 +161,7 @@ terms_opening at d o t reservation = record {
   pin_room = reservation.pin_room;
   answer_room = reservation.answer_room;
   unanswered = reservation.unanswered;
+  candidates = reservation.candidates;
 }
 
 pub node_opened : (seen : Seen) (want : Want) (number : ℕ) (access : Access) (t u : Reservation) → want ≡ wants.Open number access → t.case ≡ cases.Plain → IsReservation seen.at (node_footprint number) t → u ≡ opening_one t → IsWanted seen want u

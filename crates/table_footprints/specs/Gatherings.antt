@@ -2,7 +2,7 @@
 use Rattle.std.specs.Prelude.{ℕ, ℤ, ◌+◌, ◌*◌, ◌<◌, ◌≤◌, ◌≡◌, ◌↔◌, ◌⊎◌, ◌||◌, ◌&&◌, Bool, true, false, if◌then◌else◌, List, [], ◌∷◌, ◌++◌, Some, None, All, Any, Contains, is_none, length, map}
 use Rattle.std.specs.List.{AllZip}
 use Rattle.errno.specs.declared.TheConstants.{EINVAL, ENAMETOOLONG, ENOMEM, ENOTEMPTY, ESTALE}
-use Rattle.paths.specs.Prefixes.{Names, prefixes, path_bytes}
+use Rattle.paths.specs.Prefixes.{Name, Names, prefixes, path_bytes}
 use Rattle.table_files.specs.Handles.{Files}
 use Rattle.holds.specs.declared.held.GivenPath.{GivenPath}
 use Rattle.holds.specs.declared.held.Held.{Held}
@@ -266,8 +266,9 @@ pub record IsNoGathering (room : ℕ) (x : Gathering) : Type 0 where
 
 -- ---- reservations
 
-pub record IsReserved (x : Gathering) (case : Case) (births entries : ℕ) (t : Reservation) : Type 0 where
+pub record IsReserved (x : Gathering) (case : Case) (candidates : List Name) (births entries : ℕ) (t : Reservation) : Type 0 where
   pub case_is : t.case ≡ case
+  pub candidates_are : t.candidates ≡ candidates
   pub held : t.held ≡ record { given = x.given; shared = x.shared; exclusive = x.exclusive }
   pub promise : t.promise ≡ record { nodes = births; postings = 3 * entries; files = 0 }
   pub answer : t.answer ≡ record { items = []; room = entries }
@@ -284,6 +285,7 @@ pub record IsReservation (at : Lookup) (d : Footprint) (t : Reservation) : Type 
   pub pin_room : length d.entries ≤ t.pins.room
   pub answer_room : length d.entries ≤ t.answer.room
   pub unanswered : t.answer.items ≡ []
+  pub candidates : t.candidates ≡ hidden_in t.case
 
 -- whether the name for which an entry may be given has a node
 abbrev pub IsEntryAt : Lookup → List Location → Case → Type 0

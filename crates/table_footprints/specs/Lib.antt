@@ -4,5 +4,6 @@ pub mod Cases
 pub mod Laws
 pub mod NewRequests
 pub mod Gatherings
+pub mod InFolder
 pub mod Pages
 pub mod Removals

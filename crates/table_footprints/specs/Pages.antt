@@ -5,13 +5,13 @@ use Rattle.paths.specs.Prefixes.{Names}
 use Rattle.holds.specs.declared.held.GivenPath.{GivenPath}
 use Rattle.tree.specs.Places.{Lookup, IsPathOf}
 use Rattle.table_footprints.specs.declared.gatherings.Gathering.{Gathering}
-use Rattle.table_footprints.specs.declared.found.AtLocation.{AtLocation}
+use Rattle.table_footprints.specs.declared.in_folder.FoundName.{FoundName}
 use Rattle.table_footprints.specs.Asked.{IsPrefixAt, IsThere}
 use Rattle.table_footprints.specs.Gatherings.{IsShortPath}
 use Rattle.table_footprints.specs.Footprints.{Location, AtNode}
 
 -- one more name, which is not held
-pub record AddsName (old : Gathering) (f : AtLocation) (new : Gathering) : Type 0 where
+pub record AddsName (old : Gathering) (f : FoundName) (new : Gathering) : Type 0 where
   pub given : new.given ≡ old.given
   pub shared : new.shared ≡ old.shared
   pub exclusive : new.exclusive ≡ old.exclusive

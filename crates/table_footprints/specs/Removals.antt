@@ -1,6 +1,6 @@
 -- What the code collects for names that are removed or replaced, and for the candidates under which a file may be
 -- hidden.
-use Rattle.std.specs.Prelude.{ℕ, ℤ, ◌+◌, ◌≡◌, ◌≤◌, ◌↔◌, ◌⊎◌, List, [], ◌∷◌, ◌++◌, Some, All, Any, Contains, map}
+use Rattle.std.specs.Prelude.{ℕ, ℤ, ◌+◌, ◌≡◌, ◌≤◌, ◌↔◌, ◌⊎◌, List, [], ◌∷◌, ◌++◌, Some, All, Any, Contains, length, map}
 use Rattle.std.specs.List.{AllZip}
 use Rattle.paths.specs.Prefixes.{Name, Names}
 use Rattle.table_requests.specs.declared.data.Case.{Case}
@@ -8,22 +8,27 @@ use Rattle.holds.specs.declared.held.GivenPath.{GivenPath}
 use Rattle.tree.specs.Places.{Lookup, IsPathOf}
 use Rattle.table_footprints.specs.declared.gatherings.Gathering.{Gathering}
 use Rattle.table_footprints.specs.declared.gatherings.Reservation.{Reservation}
-use Rattle.table_footprints.specs.declared.found.AtLocation.{AtLocation}
+use Rattle.table_footprints.specs.declared.in_folder.FoundName.{FoundName}
 use Rattle.table_footprints.specs.declared.removals.Gone.{Gone}
 use Rattle.table_footprints.specs.declared.footprints.ChangeKind as told_change
 use Rattle.table_footprints.specs.declared.footprints.HoldMode.TheVariants.{Exclusive}
 use Rattle.table_footprints.specs.declared.footprints.UniformFootprint.{UniformFootprint}
 use Rattle.table_footprints.specs.Asked.{HasPath, IsThere, IsUnsound}
 use Rattle.table_footprints.specs.Cases.{IsHidingCase, Seen}
-use Rattle.table_footprints.specs.Gatherings.{IsFit, IsSharedAt, IsShortPath, IsReservation, change_in, locations_of}
+use Rattle.table_footprints.specs.Gatherings.{IsFit, IsSharedAt, IsShortPath, IsReservation, change_in, locations_of, told}
 use Rattle.table_footprints.specs.Laws.{base_of}
-use Rattle.table_footprints.specs.Footprints.{Footprint, Location, hidden_in, names_under, no_footprint}
+use Rattle.table_footprints.specs.Footprints.{Footprint, Location, AtName, hidden_in, names_under, no_footprint}
 
--- a footprint whose names are held exclusively, and which removes or replaces a name under that node
+-- the locations of the footprint of a name that is removed or replaced, which is the last of them
+abbrev pub going_locations : Gone → List Location
+going_locations gone = told gone.firsts.now ++ AtName gone.parent gone.name.now ∷ []
+
+-- a footprint whose names are held exclusively, and which removes or replaces the last of them
 pub record IsGoing (footprint : UniformFootprint) (gone : Gone) : Type 0 where
   pub fit : IsFit footprint
   pub exclusive : footprint.hold ≡ Exclusive
-  pub under : Contains (map (λ l. base_of l) (locations_of footprint)) gone.parent
+  pub few : length gone.firsts.now ≤ 1
+  pub locations : locations_of footprint ≡ going_locations gone
 
 -- the footprint of these locations, with other names in that folder
 abbrev pub going_in : List Location → told_change.ChangeKind → ℕ → List Name → Footprint
@@ -39,7 +44,7 @@ abbrev pub going_footprint : UniformFootprint → Gone → Case → Footprint
 going_footprint footprint gone c = going_in (locations_of footprint) footprint.change gone.parent (hidden_in c)
 
 -- one more name that is held exclusively, in addition to those of the footprint
-pub record AddsBeside (old : Gathering) (f : AtLocation) (new : Gathering) : Type 0 where
+pub record AddsBeside (old : Gathering) (f : FoundName) (new : Gathering) : Type 0 where
   pub given : new.given ≡ old.given
   pub shared : new.shared ≡ old.shared
   pub exclusive : new.exclusive ≡ old.exclusive ++ f.path ∷ []

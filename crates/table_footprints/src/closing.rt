@@ -16,7 +16,7 @@ use holds::{GivenPath, GivenPaths, Held, Paths, prefixes_of};
 use paths::Path;
 use std::alloc::{AllocError, Global};
 use table_files::Files;
-use table_requests::{Case, Givens, Pins, Promise};
+use table_requests::{Case, Givens, Names, Pins, Promise};
 use tree::Tree;
 
 /// Nothing is held, pinned or put in the ticket.
@@ -25,7 +25,7 @@ fn nothing(alloc: Global) -> Result<Reservation, FootprintRefusal>
     ensures err { IfErr result (λ refusal. refusal ≡ FootprintRefusal.Memory) }
 {
     let gathering = Gathering::new(alloc, 0)?;
-    let reservation = gathering.into_reservation(alloc, Case::Pathless, 0, 0)?;
+    let reservation = gathering.into_reservation(alloc, Case::Pathless, Names::new(alloc), 0, 0)?;
     Ok(reservation)
 }
 
@@ -92,6 +92,7 @@ fn last_reservation(
     pins.add(number);
     Ok(Reservation {
         case: Case::Last,
+        candidates: Names::new(alloc),
         held,
         promise: Promise {
             nodes: 0,
@@ -141,6 +142,8 @@ fn path_reservation(
 }
 
 /// What closing a file of the node reserves. Out of memory is the only error.
+// In the caller its locals would be set up for every other want too.
+#[inline(never)]
 pub(crate) fn closing_reservation(
     alloc: Global,
     tree: &Tree,

@@ -134,6 +134,7 @@ pub(crate) fn reservation_for(
                 change: ChangeKind::Cuts,
             };
             let gone = Gone {
+                firsts: &[],
                 parent: *parent,
                 name,
                 may_hide: *may_hide,
@@ -156,6 +157,7 @@ pub(crate) fn reservation_for(
                 change: ChangeKind::Moves,
             };
             let gone = Gone {
+                firsts: &[source],
                 parent: *new_parent,
                 name: new_name,
                 may_hide: may_replace(*keep, source.is(&target)),

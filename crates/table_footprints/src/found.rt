@@ -1,10 +1,10 @@
 //! Looking up what is at a location.
 
-ghost use Rattle.std.specs.Prelude.{◌<◌, ◌≡◌, ◌++◌, ◌∷◌, [], Any, IfOk, IfErr, OnOk, length};
+ghost use Rattle.std.specs.Prelude.{◌<◌, ◌≡◌, ◌↔◌, ◌++◌, ◌∷◌, [], Any, IfOk, IfErr, IsTrue, OnOk, length};
 ghost use Rattle.paths.specs.Prefixes.{Name as Spelt, Names};
 ghost use Rattle.tree.specs.Places.{IsCensus, IsTree, Leads, at_in};
 ghost use Rattle.table_footprints.specs.Gatherings.{AreEnough, AreExchangeable, AreRooted, CanMove, IsBadPath, IsFound, IsLost, IsWrongChange, MayChange, refusal_errno, location_of, told};
-ghost use Rattle.table_footprints.specs.Asked.{IsRefusedExchange, IsRefusedMove};
+ghost use Rattle.table_footprints.specs.Asked.{IsProperPrefix, IsRefusedExchange, IsRefusedMove};
 ghost use Rattle.table_footprints.specs.Laws.{base_of};
 ghost use Rattle.table_footprints.specs.Footprints as footprints;
 
@@ -98,18 +98,22 @@ pub(crate) fn expect_rooted(tree: &Tree, locations: &[Location]) -> Result<(), F
     Ok(())
 }
 
+/// Whether the path leads to the other one, which is longer. Names are compared only if it is.
+fn is_proper_prefix(path: &Path, other: &Path) -> bool
+    ensures { IsTrue result ↔ IsProperPrefix path.now other.now }
+{
+    path.len() < other.len() && path.is_prefix_of(other)
+}
+
 /// Checks that the path may be moved to the target.
 fn expect_movable(path: &Path, target: &Path) -> Result<(), FootprintRefusal>
     ensures ok { OnOk result (CanMove path.now target.now) }
     ensures err { IfErr result (λ refusal. IsRefusedMove path.now target.now (refusal_errno refusal)) }
 {
-    if path.is(target) {
-        return Ok(());
-    }
-    if path.is_prefix_of(target) {
+    if is_proper_prefix(path, target) {
         return Err(FootprintRefusal::IntoItself);
     }
-    if target.is_prefix_of(path) {
+    if is_proper_prefix(target, path) {
         return Err(FootprintRefusal::OntoFolder);
     }
     Ok(())
@@ -120,13 +124,10 @@ fn expect_exchangeable(path: &Path, other: &Path) -> Result<(), FootprintRefusal
     ensures ok { OnOk result (AreExchangeable path.now other.now) }
     ensures err { IfErr result (λ refusal. IsRefusedExchange path.now other.now (refusal_errno refusal)) }
 {
-    if path.is(other) {
-        return Ok(());
-    }
-    if path.is_prefix_of(other) {
+    if is_proper_prefix(path, other) {
         return Err(FootprintRefusal::IntoItself);
     }
-    if other.is_prefix_of(path) {
+    if is_proper_prefix(other, path) {
         return Err(FootprintRefusal::IntoItself);
     }
     Ok(())

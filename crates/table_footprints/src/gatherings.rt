@@ -1,18 +1,18 @@
 //! What a footprint reserves, collected location by location.
 
-ghost use Rattle.std.specs.Prelude.{ℕ, ◌+◌, ◌*◌, ◌^◌, ◌<◌, ◌≤◌, ◌≡◌, ◌↔◌, ◌⊎◌, ◌++◌, Contains, Some, IfOk, IfErr, OnOk, length};
+ghost use Rattle.std.specs.Prelude.{ℕ, ◌+◌, ◌*◌, ◌^◌, ◌<◌, ◌≤◌, ◌≡◌, ◌↔◌, ◌⊎◌, ◌++◌, [], Contains, Some, IfOk, IfErr, OnOk, length};
 ghost use Rattle.paths.specs.Prefixes.{prefixes};
 ghost use Rattle.tree.specs.Places.{IsCensus, IsTree, at_in};
 ghost use Rattle.table_footprints.specs.Asked.{IsUnsound};
-ghost use Rattle.table_footprints.specs.Gatherings.{Adds, AreRooted, entered_case, IsAgreed, IsBadFootprint, IsGathering, IsReserved, IsFit, IsNoGathering, IsOpening, footprint_from, entries_of, refusal_errno, locations_of, own_paths, shared_path};
+ghost use Rattle.table_footprints.specs.Gatherings.{Adds, AreRooted, entered_case, IsAgreed, IsBadFootprint, IsGathering, IsReserved, IsFit, IsNoGathering, IsOpening, footprint_from, entries_of, refusal_errno, own_paths, shared_path, told};
 ghost use Rattle.table_footprints.specs.Footprints.{births_in};
 
-use crate::footprints::{HoldMode, UniformFootprint};
+use crate::footprints::{HoldMode, Location, UniformFootprint};
 use crate::found::{AtLocation, expect_change, expect_rooted, find};
 use crate::refusal::FootprintRefusal;
 use holds::{GivenPath, GivenPaths, Held, Paths, push_prefixes};
 use std::alloc::{AllocError, Global};
-use table_requests::{Case, Givens, Pins, Promise};
+use table_requests::{Case, Givens, Names, Pins, Promise};
 use tree::Tree;
 
 /// The postings that an entry may need: a birth, the entry itself, and the one that takes it back.
@@ -22,6 +22,8 @@ const ENTRY_POSTINGS: u64 = 3;
 #[derive(Drop)]
 pub(crate) struct Reservation {
     pub(crate) case: Case,
+    /// The names under which a file may be hidden in that case.
+    pub(crate) candidates: Names,
     pub(crate) held: Held,
     pub(crate) promise: Promise,
     pub(crate) answer: Givens,
@@ -32,7 +34,7 @@ pub(crate) struct Reservation {
 /// What was collected so far.
 #[derive(Drop)]
 pub(crate) struct Gathering {
-    given: GivenPaths,
+    pub(crate) given: GivenPaths,
     shared: Paths,
     pub(crate) exclusive: Paths,
     pub(crate) pins: Pins,
@@ -79,6 +81,16 @@ fn births_in(case: Case) -> u64
     }
 }
 
+/// An empty list with room for that many paths, as far as they need an allocation.
+fn room_for(alloc: Global, paths: usize) -> Result<Paths, AllocError>
+    ensures { IfOk result (λ list. list ≡ []) }
+{
+    if paths < 2 {
+        return Ok(Paths::new());
+    }
+    Ok(Paths::from_vec(Vec::with_capacity(alloc, paths)?))
+}
+
 impl Gathering {
     /// Nothing yet, with room for `pins` pins.
     pub(crate) fn new(alloc: Global, pins: usize) -> Result<Gathering, AllocError>
@@ -91,6 +103,28 @@ impl Gathering {
             exclusive: Paths::new(),
             pins,
             paths: Paths::new(),
+            absent: false,
+        })
+    }
+
+    /// The same, with room for `paths` paths too, and for `exclusive` that are held exclusively.
+    pub(crate) fn with_room(
+        alloc: Global,
+        pins: usize,
+        paths: usize,
+        exclusive: usize,
+    ) -> Result<Gathering, AllocError>
+        ensures { IfOk result (IsNoGathering pins) }
+    {
+        let paths = room_for(alloc, paths)?;
+        let exclusive = room_for(alloc, exclusive)?;
+        let pins = Pins::with_capacity(alloc, pins)?;
+        Ok(Gathering {
+            given: GivenPaths::new(),
+            shared: Paths::new(),
+            exclusive,
+            pins,
+            paths,
             absent: false,
         })
     }
@@ -146,11 +180,12 @@ impl Gathering {
         self,
         alloc: Global,
         case: Case,
+        candidates: Names,
         births: u64,
         entries: usize,
     ) -> Result<Reservation, AllocError>
         requires { 3 * entries < 2 ^ 64 }
-        ensures { IfOk result (IsReserved self case births entries) }
+        ensures { IfOk result (IsReserved self case candidates births entries) }
     {
         let answer = Givens::with_capacity(alloc, entries)?;
         let promise = Promise {
@@ -173,6 +208,7 @@ impl Gathering {
         };
         Ok(Reservation {
             case,
+            candidates,
             held,
             promise,
             answer,
@@ -188,6 +224,7 @@ fn with_file(reservation: Reservation) -> Reservation
 {
     let Reservation {
         case,
+        candidates,
         held,
         promise,
         answer,
@@ -196,6 +233,7 @@ fn with_file(reservation: Reservation) -> Reservation
     } = reservation;
     Reservation {
         case,
+        candidates,
         held,
         promise: Promise {
             files: 1,
@@ -207,28 +245,27 @@ fn with_file(reservation: Reservation) -> Reservation
     }
 }
 
-/// What is found at the footprint's locations, which lead to the root, with room for `more` further pins.
-pub(crate) fn gathering_of(
+/// Adds what is found at the locations, which lead to the root, to an empty gathering.
+pub(crate) fn gather(
     alloc: Global,
     tree: &Tree,
-    footprint: &UniformFootprint,
-    more: usize,
-) -> Result<Gathering, FootprintRefusal>
+    gathering: &mut Gathering,
+    locations: &[Location],
+    hold: HoldMode,
+) -> Result<(), FootprintRefusal>
     requires tree { IsTree (at_in tree.now) }
-    requires rooted { AreRooted (at_in tree.now) (locations_of footprint.now) }
-    requires few { length footprint.now.locations.now ≤ 2 }
-    requires short { more + 5 < 2 ^ 64 }
-    ensures ok { IfOk result (IsGathering (at_in tree.now) footprint.now.hold (locations_of footprint.now)) }
-    ensures room { IfOk result (λ gathering. entries_of footprint.now + more ≤ gathering.pins.room) }
-    ensures err { IfErr result (IsBadFootprint (at_in tree.now) (locations_of footprint.now)) }
+    requires rooted { AreRooted (at_in tree.now) (told locations.now) }
+    requires empty { IsNoGathering gathering.old.pins.room gathering.old }
+    requires enough { 2 * length locations.now ≤ gathering.old.pins.room }
+    ensures ok { OnOk result (IsGathering (at_in tree.now) hold (told locations.now) gathering.new) }
+    ensures room { OnOk result (gathering.old.pins.room ≤ gathering.new.pins.room + 2 * length locations.now) }
+    ensures err { IfErr result (IsBadFootprint (at_in tree.now) (told locations.now)) }
 {
-    let entries = usize::from(footprint.enters);
-    let mut gathering = Gathering::new(alloc, 2 * footprint.locations.len() + entries + more)?;
-    for location in footprint.locations {
+    for location in locations {
         let found = find(alloc, tree, location)?;
-        gathering.add(alloc, location.base(), found, footprint.hold)?;
+        gathering.add(alloc, location.base(), found, hold)?;
     }
-    Ok(gathering)
+    Ok(())
 }
 
 /// What the footprint reserves, if the tests of the nodes allow it.
@@ -245,14 +282,23 @@ pub(crate) fn reservation_of(
 {
     // All parents are tested before any path, so a cut or unknown one is ESTALE whatever the other path is.
     expect_rooted(tree, footprint.locations)?;
-    let gathering = gathering_of(alloc, tree, footprint, 0)?;
+    let entries = usize::from(footprint.enters);
+    let mut gathering = Gathering::new(alloc, 2 * footprint.locations.len() + entries)?;
+    gather(
+        alloc,
+        tree,
+        &mut gathering,
+        footprint.locations,
+        footprint.hold,
+    )?;
     expect_change(footprint.change, gathering.paths.as_slice())?;
     let case = entered_case(gathering.absent, footprint.enters);
     let reservation = gathering.into_reservation(
         alloc,
         case,
+        Names::new(alloc),
         births_in(case),
-        usize::from(footprint.enters),
+        entries,
     )?;
     Ok(reservation)
 }

@@ -6,6 +6,7 @@ mod data;
 mod footprints;
 mod found;
 mod gatherings;
+mod in_folder;
 mod pages;
 mod refusal;
 mod removals;
@@ -22,7 +23,6 @@ use errno::ENOMEM;
 use footprints::reservation_for;
 use gatherings::Reservation;
 use paths::Name;
-use removals::candidates;
 use std::alloc::{AllocError, Global};
 use table_files::Files;
 use table_requests::{Case, Names, Want, Work};
@@ -114,19 +114,20 @@ fn copies(alloc: Global, want: &Want, _case: Case, candidates: &Names) -> Result
 
 /// The record of a request with that want and that reservation.
 fn recorded(alloc: Global, want: Want, reservation: Reservation) -> Result<NewRequest, AllocError>
+    requires { reservation.candidates ≡ hidden_in reservation.case }
     ensures { IfOk result (IsRecord want reservation) }
 {
-    let copy = copied(&want)?;
-    let candidates = candidates(alloc, reservation.case)?;
-    let copies = copies(alloc, &want, reservation.case, &candidates)?;
     let Reservation {
         case,
+        candidates,
         held,
         promise,
         answer,
         pins,
         paths,
     } = reservation;
+    let copy = copied(&want)?;
+    let copies = copies(alloc, &want, case, &candidates)?;
     let work = Work {
         want,
         case,

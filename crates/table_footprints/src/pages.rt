@@ -8,12 +8,13 @@ ghost use Rattle.table_footprints.specs.Pages.{AddsName, IsPage};
 ghost use Rattle.table_footprints.specs.Footprints.{AtNode, page_names, page_footprint};
 
 use crate::footprints::{HoldMode, Location};
-use crate::found::{AtLocation, expect_rooted, find};
+use crate::found::{expect_rooted, find};
 use crate::gatherings::{Gathering, Reservation};
+use crate::in_folder::{FoundName, find_in, folder_path};
 use crate::refusal::FootprintRefusal;
 use paths::Name;
 use std::alloc::{AllocError, Global};
-use table_requests::{Case, Pins};
+use table_requests::{Case, Names, Pins};
 use tree::Tree;
 
 /// Pins the node that was found, if any.
@@ -29,15 +30,11 @@ pub(crate) fn pin_found(pins: &mut Pins, found: Option<u64>)
 }
 
 /// Adds what was found at a name, without holding the name.
-fn add_name(alloc: Global, gathering: &mut Gathering, found: AtLocation) -> Result<(), AllocError>
+fn add_name(alloc: Global, gathering: &mut Gathering, found: FoundName) -> Result<(), AllocError>
     requires { 1 ≤ gathering.old.pins.room }
     ensures { OnOk result (AddsName gathering.old found gathering.new) }
 {
-    let AtLocation {
-        above: _,
-        path,
-        node,
-    } = found;
+    let FoundName { path, node } = found;
     pin_found(&mut gathering.pins, node);
     gathering.paths.push(alloc, path)?;
     Ok(())
@@ -58,7 +55,7 @@ fn folder_draft(
     ensures room { IfOk result (λ gathering. 2 * names ≤ gathering.pins.room) }
     ensures err { IfErr result (IsBadFootprint (at_in tree.now) (AtNode folder ∷ [])) }
 {
-    let mut gathering = Gathering::new(alloc, 2 * names + 2)?;
+    let mut gathering = Gathering::with_room(alloc, 2 * names + 2, names.saturating_add(1), 0)?;
     let found = find(alloc, tree, &Location::AtNode(folder))?;
     gathering.add(alloc, folder, found, HoldMode::Shared)?;
     Ok(gathering)
@@ -78,14 +75,17 @@ fn page_draft(
     ensures err { IfErr result (IsBadFootprint (at_in tree.now) (AtNode folder ∷ page_names folder names.now)) }
 {
     let mut gathering = folder_draft(alloc, tree, folder, names.len())?;
+    let place = folder_path(gathering.given.as_slice(), folder)?;
     for name in names {
-        let found = find(alloc, tree, &Location::AtName(folder, name))?;
+        let found = find_in(alloc, tree, folder, &place, name)?;
         add_name(alloc, &mut gathering, found)?;
     }
     Ok(gathering)
 }
 
 /// What a page of these names reserves, if the tests of the nodes allow it.
+// In the caller its locals would be set up for every other want too.
+#[inline(never)]
 pub(crate) fn page_reservation(
     alloc: Global,
     tree: &Tree,
@@ -101,6 +101,7 @@ pub(crate) fn page_reservation(
     let reservation = gathering.into_reservation(
         alloc,
         Case::Plain,
+        Names::new(alloc),
         names.len() as u64,
         names.len(),
     )?;

@@ -6,14 +6,14 @@ ghost use Rattle.table_files.specs.OpenEntry.{files_of};
 ghost use Rattle.tree.specs.Places.{IsNamed, IsTree, Lookup, at_in};
 ghost use Rattle.paths.specs.Prefixes.{Name as Spelt};
 ghost use Rattle.table_footprints.specs.Cases.{IsHidingCase, seen_of};
-ghost use Rattle.table_footprints.specs.Gatherings.{AreRooted, IsBadFootprint, refusal_errno, locations_of};
-ghost use Rattle.table_footprints.specs.Laws.{base_of};
-ghost use Rattle.table_footprints.specs.Removals.{AddsBeside, AreGoingTerms, IsGathered, IsGoing, IsRefusedGoing};
-ghost use Rattle.table_footprints.specs.Footprints.{hidden_in, hidden_names, names_under};
+ghost use Rattle.table_footprints.specs.Gatherings.{AreRooted, IsBadFootprint, IsFound, IsGathering, refusal_errno};
+ghost use Rattle.table_footprints.specs.Removals.{AddsBeside, AreGoingTerms, IsGathered, IsGoing, IsRefusedGoing, going_locations};
+ghost use Rattle.table_footprints.specs.Footprints.{AtName, hidden_in, hidden_names, names_under};
 
 use crate::footprints::{HoldMode, Location, UniformFootprint};
 use crate::found::{AtLocation, expect_change, expect_rooted, find};
-use crate::gatherings::{Gathering, Reservation, gathering_of};
+use crate::gatherings::{Gathering, Reservation, gather};
+use crate::in_folder::{FoundName, find_in, folder_path};
 use crate::pages::pin_found;
 use crate::refusal::FootprintRefusal;
 use paths::Name;
@@ -21,11 +21,13 @@ use paths::reserved::{candidate, hidden_name};
 use std::alloc::{AllocError, Global};
 use table_files::Files;
 use table_requests::{Case, Names};
-use tree::{Key, Tree};
+use tree::Tree;
 
 /// A name that is removed or replaced.
 #[derive(Clone, Copy)]
 pub(crate) struct Gone<'a> {
+    /// The locations of its footprint before this name.
+    pub(crate) firsts: &'a [Location<'a>],
     pub(crate) parent: u64,
     pub(crate) name: &'a Name,
     /// Whether the file of the node with this name is hidden if it is open.
@@ -34,17 +36,6 @@ pub(crate) struct Gone<'a> {
 
 /// How many candidates a file may be hidden under.
 const CANDIDATES: u32 = 10;
-
-/// The node with this name.
-fn standing(tree: &Tree, gone: &Gone) -> Result<Option<u64>, AllocError>
-    ensures { IfOk result (λ node. (n : ℕ) → (node ≡ Some n) ↔ IsNamed (at_in tree.now) n gone.now.parent gone.now.name.now) }
-{
-    let key = Key {
-        parent: gone.parent,
-        name: gone.name.copy()?,
-    };
-    Ok(tree.find(&key))
-}
 
 /// The case of a name that is removed or replaced, by the node that was found there.
 fn hiding_case(files: &Files, counter: u32, may_hide: bool, found: Option<u64>) -> Case
@@ -62,6 +53,8 @@ fn hiding_case(files: &Files, counter: u32, may_hide: bool, found: Option<u64>) 
 
 #[tactic(auto, unfolding(crate::specs::Footprints::hidden_names))]
 /// The ten candidates, from that counter on, under which a file of the node may be hidden.
+// Few names that go are those of open files.
+#[inline(never)]
 fn candidates_of(alloc: Global, number: u64, counter: u32) -> Result<Names, AllocError>
     ensures { IfOk result (λ names. names ≡ hidden_names number counter 10) }
 {
@@ -73,7 +66,7 @@ fn candidates_of(alloc: Global, number: u64, counter: u32) -> Result<Names, Allo
 }
 
 /// The candidates under which a file may be hidden in that case.
-pub(crate) fn candidates(alloc: Global, case: Case) -> Result<Names, AllocError>
+fn candidates(alloc: Global, case: Case) -> Result<Names, AllocError>
     ensures { IfOk result (λ names. names ≡ hidden_in case) }
 {
     match case {
@@ -84,42 +77,88 @@ pub(crate) fn candidates(alloc: Global, case: Case) -> Result<Names, AllocError>
 
 /// Adds what was found at a candidate. It is pinned and held exclusively, so that no other request makes or removes it
 /// before this one ends.
-fn add_beside(alloc: Global, gathering: &mut Gathering, found: AtLocation) -> Result<(), AllocError>
+fn add_beside(alloc: Global, gathering: &mut Gathering, found: FoundName) -> Result<(), AllocError>
     requires { 1 ≤ gathering.old.pins.room }
     ensures { OnOk result (AddsBeside gathering.old found gathering.new) }
 {
-    let AtLocation {
-        above: _,
-        path,
-        node,
-    } = found;
+    let FoundName { path, node } = found;
     pin_found(&mut gathering.pins, node);
     gathering.exclusive.push(alloc, path.copy()?)?;
     gathering.paths.push(alloc, path)?;
     Ok(())
 }
 
-/// What is found at the footprint's locations, and at the other names in the same folder.
+/// What is found at the locations of the footprint, the last of which was found before. There is room for `more` names
+/// in addition.
+fn going_draft(
+    alloc: Global,
+    tree: &Tree,
+    gone: &Gone,
+    found: AtLocation,
+    more: usize,
+) -> Result<Gathering, FootprintRefusal>
+    requires tree { IsTree (at_in tree.now) }
+    requires rooted { AreRooted (at_in tree.now) (going_locations gone.now) }
+    requires few { length gone.now.firsts.now ≤ 1 }
+    requires short { more + 5 < 2 ^ 64 }
+    requires found { IsFound (at_in tree.now) (AtName gone.now.parent gone.now.name.now) found }
+    ensures ok { IfOk result (IsGathering (at_in tree.now) HoldMode.Exclusive (going_locations gone.now)) }
+    ensures room { IfOk result (λ gathering. more ≤ gathering.pins.room) }
+    ensures err { IfErr result (IsBadFootprint (at_in tree.now) (going_locations gone.now)) }
+{
+    let locations = gone.firsts.len() + 1;
+    let paths = locations + more;
+    let mut gathering = Gathering::with_room(alloc, locations + paths, paths, paths)?;
+    let hold = HoldMode::Exclusive;
+    gather(alloc, tree, &mut gathering, gone.firsts, hold)?;
+    gathering.add(alloc, gone.parent, found, hold)?;
+    Ok(gathering)
+}
+
+/// Adds what is found at the other names in the same folder.
+// Few names that go have others beside them.
+#[inline(never)]
+fn add_candidates(
+    alloc: Global,
+    tree: &Tree,
+    gathering: &mut Gathering,
+    gone: &Gone,
+    beside: &[Name],
+) -> Result<(), FootprintRefusal>
+    requires tree { IsTree (at_in tree.now) }
+    requires gathering { IsGathering (at_in tree.now) HoldMode.Exclusive (going_locations gone.now) gathering.old }
+    requires room { length beside.now ≤ gathering.old.pins.room }
+    ensures ok { OnOk result (IsGathered (at_in tree.now) (going_locations gone.now) (going_locations gone.now ++ names_under gone.now.parent beside.now) gathering.new) }
+    ensures err { IfErr result (IsBadFootprint (at_in tree.now) (going_locations gone.now ++ names_under gone.now.parent beside.now)) }
+{
+    let place = folder_path(gathering.given.as_slice(), gone.parent)?;
+    for other in beside {
+        let found = find_in(alloc, tree, gone.parent, &place, other)?;
+        add_beside(alloc, gathering, found)?;
+    }
+    Ok(())
+}
+
+/// What is found at the locations of the footprint, and at the other names in the same folder.
 fn gathered(
     alloc: Global,
     tree: &Tree,
-    footprint: &UniformFootprint,
-    folder: u64,
+    gone: &Gone,
+    found: AtLocation,
     beside: &[Name],
 ) -> Result<Gathering, FootprintRefusal>
     requires tree { IsTree (at_in tree.now) }
-    requires rooted { AreRooted (at_in tree.now) (locations_of footprint.now) }
-    requires few { length footprint.now.locations.now ≤ 2 }
-    requires exclusive { footprint.now.hold ≡ HoldMode.Exclusive }
-    requires under { Contains (map (λ l. base_of l) (locations_of footprint.now)) folder }
-    ensures ok { IfOk result (IsGathered (at_in tree.now) (locations_of footprint.now) (locations_of footprint.now ++ names_under folder beside.now)) }
-    ensures err { IfErr result (IsBadFootprint (at_in tree.now) (locations_of footprint.now ++ names_under folder beside.now)) }
+    requires rooted { AreRooted (at_in tree.now) (going_locations gone.now) }
+    requires few { length gone.now.firsts.now ≤ 1 }
+    requires found { IsFound (at_in tree.now) (AtName gone.now.parent gone.now.name.now) found }
+    ensures ok { IfOk result (IsGathered (at_in tree.now) (going_locations gone.now) (going_locations gone.now ++ names_under gone.now.parent beside.now)) }
+    ensures err { IfErr result (IsBadFootprint (at_in tree.now) (going_locations gone.now ++ names_under gone.now.parent beside.now)) }
 {
-    let mut gathering = gathering_of(alloc, tree, footprint, beside.len())?;
-    for other in beside {
-        let found = find(alloc, tree, &Location::AtName(folder, other))?;
-        add_beside(alloc, &mut gathering, found)?;
+    let mut gathering = going_draft(alloc, tree, gone, found, beside.len())?;
+    if beside.is_empty() {
+        return Ok(gathering);
     }
+    add_candidates(alloc, tree, &mut gathering, gone, beside)?;
     Ok(gathering)
 }
 
@@ -138,11 +177,11 @@ pub(crate) fn going_reservation(
 {
     let _files = files.len(); // proof: its law
     expect_rooted(tree, footprint.locations)?;
-    let found = standing(tree, gone)?;
-    let case = hiding_case(files, counter, gone.may_hide, found);
-    let beside = candidates(alloc, case)?;
-    let gathering = gathered(alloc, tree, footprint, gone.parent, beside.as_slice())?;
+    let found = find(alloc, tree, &Location::AtName(gone.parent, gone.name))?;
+    let case = hiding_case(files, counter, gone.may_hide, found.node);
+    let candidates = candidates(alloc, case)?;
+    let gathering = gathered(alloc, tree, gone, found, candidates.as_slice())?;
     expect_change(footprint.change, gathering.paths.as_slice())?;
-    let reservation = gathering.into_reservation(alloc, case, 0, 0)?;
+    let reservation = gathering.into_reservation(alloc, case, candidates, 0, 0)?;
     Ok(reservation)
 }

@@ -12,4 +12,4 @@ returns-in_err-path-clause-err c =
 
 pub returns-clause-ok : goal.returns-clause-ok
 returns-clause-ok c =
-    last_agreed (at_in c.args.tree.now) c.path.ensures.tree c.args.number c.in_ok-path.path c.in_ok-path.ensures.ok.0 _ c.in_ok-path.ensures.ok.1 (search rules) c.in_ok-held.ensures (search rules) (search rules) (search rules) (search rules)
+    last_agreed (at_in c.args.tree.now) c.path.ensures.tree c.args.number c.in_ok-path.path c.in_ok-path.ensures.ok.0 _ c.in_ok-path.ensures.ok.1 (search rules) (search rules) c.in_ok-held.ensures (search rules) (search rules) (search rules) (search rules)

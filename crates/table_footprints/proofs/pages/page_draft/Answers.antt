@@ -1,10 +1,12 @@
-use Rattle.std.proofs.Common.{◌∷◌, Contains, take, arith, sym, subst, refl}
+use Rattle.std.proofs.Common.{ℕ, List, [], ◌∷◌, All, Contains, map, take, arith, sym, subst, refl}
 use Rattle.std.proofs.lemmas.Result.{err_from_is_err_and}
 use Rattle.holds.proofs.Among.{contains_read}
-use Rattle.tree.specs.Places.{at_in}
+use Rattle.holds.specs.declared.held.GivenPath.{GivenPath}
+use Rattle.tree.specs.Places.{IsPathOf, at_in}
 use Rattle.table_footprints.specs.Pages.{IsPage}
 use Rattle.table_footprints.specs.Footprints.{AtName, AtNode, page_names}
 use Rattle.table_footprints.proofs.Gathering.{bad_row}
+use Rattle.table_footprints.proofs.Members.{first_in}
 use Rattle.table_footprints.proofs.Paging.{name_in, names_more, page_more}
 use Rattle.table_footprints.proofs.pages.page_draft.Goals as goal
 
@@ -15,6 +17,16 @@ returns-in_err-found-clause-err c =
     let name = c.name-item.result in
     let here : Contains names name = contains_read names c.loop-name.name-index name name c.loop-name-test.true c.name-item.is refl in
     rw (p.1, p.2) (bad_row (at_in c.args.tree.now) (AtNode c.args.folder ∷ page_names c.args.folder names) (AtName c.args.folder name) c.in_err-found.field-0.0 (name_in c.args.folder names name here) c.in_err-found.ensures.err)
+
+pub folder_path-requires : goal.folder_path-requires
+folder_path-requires c =
+    let folder = c.args.folder in
+    subst (λ (leads : List GivenPath). Contains (map (λ (lead : GivenPath). lead.number) leads) folder) (sym c.as_slice.ensures) (subst (λ (ns : List ℕ). Contains ns folder) (sym c.in_ok-gathering.ensures.ok.numbers) (first_in folder []))
+
+pub find_in-requires : goal.find_in-requires
+find_in-requires c =
+    let at = at_in c.args.tree.now in
+    c.in_ok-place.ensures at (subst (λ (leads : List GivenPath). All (λ (lead : GivenPath). IsPathOf at lead.number lead.path) leads) (sym c.as_slice.ensures) c.in_ok-gathering.ensures.ok.leads)
 
 pub loop-name-preserved : goal.loop-name-preserved
 loop-name-preserved c =

@@ -1,10 +1,12 @@
-use Rattle.std.proofs.Common.{ℕ, [], ◌∷◌, sym, subst}
+use Rattle.std.proofs.Common.{ℕ, List, [], ◌∷◌, length, sym, subst}
 use Rattle.std.proofs.lemmas.Result.{err_from_is_err_and}
+use Rattle.paths.specs.Prefixes.{Name}
+use Rattle.table_requests.specs.declared.data.Case.TheVariants as cases
 use Rattle.tree.specs.Places.{Lookup, Leads, at_in}
 use Rattle.table_footprints.specs.declared.refusal.FootprintRefusal.{FootprintRefusal}
 use Rattle.table_footprints.specs.declared.refusal.FootprintRefusal.TheVariants.{Memory}
 use Rattle.table_footprints.specs.Asked.{IsUnsound}
-use Rattle.table_footprints.specs.Gatherings.{AreRooted, IsLost, IsRootedAt, refusal_errno}
+use Rattle.table_footprints.specs.Gatherings.{AreRooted, IsLost, IsReserved, IsRootedAt, refusal_errno}
 use Rattle.table_footprints.specs.Footprints.{AtNode, page_footprint}
 use Rattle.table_footprints.proofs.Members.{all_in, any_only, first_in}
 use Rattle.table_footprints.proofs.Paging.{page_agreed, page_bad, page_lost}
@@ -35,5 +37,6 @@ pub returns-clause-ok : goal.returns-clause-ok
 returns-clause-ok c = (
   c.in_ok-reservation.ensures.case_is,
   page_agreed (at_in c.args.tree.now) c.expect_rooted.ensures.tree c.args.folder c.args.names.now c.in_ok-gathering.gathering c.in_ok-reservation.reservation
-      (folder_leads (at_in c.args.tree.now) c.args.folder c.in_ok-expect_rooted.ensures.ok) c.in_ok-gathering.ensures.ok c.in_ok-gathering.ensures.room c.in_ok-reservation.ensures,
+      (folder_leads (at_in c.args.tree.now) c.args.folder c.in_ok-expect_rooted.ensures.ok) c.in_ok-gathering.ensures.ok c.in_ok-gathering.ensures.room
+      (subst (λ (cs : List Name). IsReserved c.in_ok-gathering.gathering cases.Plain cs (length c.args.names.now) (length c.args.names.now) c.in_ok-reservation.reservation) c.new.ensures c.in_ok-reservation.ensures),
 )
