@@ -1,5 +1,5 @@
 use Rattle.disk_folder.proofs.SeenLemmas.{entry_refused}
-use Rattle.disk_folder.proofs.stat.see.Goals as goal
+use Rattle.disk_folder.proofs.stat.see_below.Goals as goal
 
 pub returns-in-Ok-clause-err : goal.returns-in-Ok-clause-err
 returns-in-Ok-clause-err g c = λ all.
