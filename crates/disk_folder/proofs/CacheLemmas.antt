@@ -118,6 +118,15 @@ relocated_target {H} old new up name t forgets none = record { cases = inr (λ p
     by_tests p false true over e = e ∙ none_kept_below old up name p none over
     by_tests p false false over e = e
 
+-- what was kept where it goes is closed, and nothing was kept at it
+pub relocated_none : {H : Type 0} (old new : OpenCache H) (s t : Names) → Forgets old t new → NoneKept old s → IsRelocated (kept_at old.cache) s t (kept_at new.cache)
+relocated_none {H} old new s t forgets none = record { cases = inr (λ p. by_tests p (is_prefix t p) (is_prefix s p) refl (forgets.kept p)) }
+  where
+    by_tests : (p : Names) (a b : Bool) → is_prefix s p ≡ b → kept_at new.cache p ≡ (if a then None else kept_at old.cache p) → kept_at new.cache p ≡ (if a then None else (if b then None else kept_at old.cache p))
+    by_tests p true b over e = e
+    by_tests p false true over e = let it = is_prefix-more s p over in e ∙ (ap (λ (q : Names). kept_at old.cache q) it.1 ∙ none.none it.0)
+    by_tests p false false over e = e
+
 -- a name is not found, and nothing is kept at the path
 pub not_found : {H : Type 0} (mid new : OpenCache H) (names : Names) (k : ℕ) (name : Name) → k < length names → name ≡ get_or names k name → ((p : Names) → kept_at new.cache p ≡ kept_at mid.cache p) → kept_at mid.cache (take k names ++ name ∷ []) ≡ None → NoneKept new names
 not_found {H} mid new names k name within is same none =

@@ -1,5 +1,5 @@
 -- What is open stands, as what is kept changes.
-use Rattle.std.proofs.Common.{◌≡◌, [], ◌∷◌, ◌++◌, Option, Some, None, Result, Ok, Err, IfOk, refl, sym, ap, ◌∙◌, subst, inl, inr}
+use Rattle.std.proofs.Common.{◌≡◌, ◌⊎◌, [], ◌∷◌, ◌++◌, Option, Some, None, Result, Ok, Err, IfOk, refl, sym, ap, ◌∙◌, subst, inl, inr}
 use Rattle.std.specs.Option.{option_map}
 use Rattle.std.proofs.lemmas.Option.{none-some}
 use Rattle.paths.specs.Prefixes.{Name, Names}
@@ -15,11 +15,12 @@ use Rattle.path_cache.specs.Cache.{kept_at, value_at, IsAt}
 use Rattle.path_cache.proofs.CallerLemmas.{value_here}
 use Rattle.disk_folder.specs.declared.opened.Open.{Open}
 use Rattle.disk_folder.specs.declared.opened.Held.{Held}
+use Rattle.disk_folder.specs.declared.opened.KeptEntry.{KeptEntry}
 use Rattle.disk_folder.specs.declared.opened.Held.TheVariants.{Kept, Own}
 use Rattle.disk_folder.specs.declared.open_cache.OpenCache.{OpenCache}
 use Rattle.disk_folder.specs.declared.trouble.Trouble.{Trouble}
 use Rattle.disk_folder.proofs.WayLemmas.{file_is, kind_file}
-use Rattle.disk_folder.specs.Standing.{open_of, kind_at, AllStand, IsFileAt, IsOpenFile, IsOpenFolder, IsOwn, IsFolderAt, IsHeldAt, IsStanding, KeepsAll, Keeps, OwnStands, Settles}
+use Rattle.disk_folder.specs.Standing.{open_of, kind_at, AllStand, IsFileAt, IsOpenFile, IsOpenFolder, IsOwn, IsFolderAt, IsHeldAt, IsKeptEntry, IsStanding, KeepsAll, Keeps, OwnStands, Settles}
 
 pub some_same : {A : Type 0} (x y : A) (o : Option A) → o ≡ Some x → o ≡ Some y → x ≡ y
 some_same x y o e f = let g : Some x ≡ Some y = sym e ∙ f in cc
@@ -93,6 +94,17 @@ kept_folder at stands c place p all there is =
     let it = kept_kind (value_at c.cache place) kinds.Folder is in
     let standing = all.each p it.0 (sym (value_here c.cache place p there) ∙ it.1) in
     record { all = all; held_at = there; own = tt; folder = kind_folder (at p) (standing.kind ∙ ap Some it.2) }
+
+-- the root or a folder that is kept stands
+pub way_folder : {H : Type 0} (at : Tree) (stands : H → Names → Type 0) (c : OpenCache H) (place : Place) (p : Names) → at [] ≡ Some Folder → AllStand at stands c → IsAt c.cache place p → (p ≡ []) ⊎ (kind_at c place ≡ Some kinds.Folder) → IsFolderAt at stands c (Kept place) p
+way_folder at stands c place p root all there is = elim is [
+  | inl e ↦ record { all = all; held_at = there; own = tt; folder = ap at e ∙ root }
+  | inr kind ↦ kept_folder at stands c place p all there kind
+]
+
+-- the folder of a name that stays open stands
+pub kept_stands : {H : Type 0} (at : Tree) (stands : H → Names → Type 0) (c : OpenCache H) (entry : KeptEntry) (path : Names) → at [] ≡ Some Folder → AllStand at stands c → (it : IsKeptEntry c entry path) → IsFolderAt at stands c (Kept entry.folder) it.up
+kept_stands at stands c entry path root all it = way_folder at stands c entry.folder it.up root all it.at it.kind
 
 -- a folder that was opened stands
 pub opened_folder : {H : Type 0} (at : Tree) (stands : H → Names → Type 0) (q : Names) (handle : H) (result : Result (Open H) Trouble) → IfOk result (λ opened. (opened.kind ≡ kinds.Folder) × (opened.handle ≡ handle)) → stands handle q × (at q ≡ Some Folder) → IfOk result (IsOpenFolder at stands q)

@@ -1,12 +1,12 @@
 -- How a move ends that no look came before.
-use Rattle.std.proofs.Common.{Option, Result, Ok, Err, ◌≡◌, Some, None, refl, sym, ap, ◌∙◌, subst, inl, inr}
+use Rattle.std.proofs.Common.{Option, Result, Ok, Err, ◌≡◌, Some, None, sym, ap, ◌∙◌, subst, inl, inr}
 use Rattle.std.specs.Option.{option_map}
 use Rattle.paths.specs.Prefixes.{Names}
 use Rattle.backing.specs.declared.call.Answer.{Answer}
 use Rattle.backing.specs.declared.call.Answer.TheVariants.{Done}
 use Rattle.backing.specs.Tree.{Tree, IsTree, Resolves}
 use Rattle.backing.specs.Calls.{Asked, AskRename, AskRenameNew}
-use Rattle.disk.specs.Answers.{AreApart, Moves, Renames, Stays}
+use Rattle.disk.specs.Answers.{AreApart, Renames, Stays}
 use Rattle.disk.specs.declared.error.DiskError.{DiskError}
 use Rattle.disk.specs.declared.error.DiskError.TheVariants.{Absent, Exists, NotFolder, IsFolder, NotEmpty, Failed as Lost}
 use Rattle.disk_folder.specs.declared.trouble.Trouble.{Trouble}

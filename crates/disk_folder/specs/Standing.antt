@@ -3,6 +3,7 @@ use Rattle.std.specs.Prelude.{ℕ, ◌≡◌, ◌⊎◌, List, ◌++◌, ◌∷�
 use Rattle.std.specs.Option.{option_map}
 use Rattle.paths.specs.Prefixes.{Names, is_prefix}
 use Rattle.payload.specs.declared.attributes.Kind.{Kind}
+use Rattle.payload.specs.declared.attributes.Kind.TheVariants as kinds
 use Rattle.backing.specs.declared.entries.Item.TheVariants.{Folder, File}
 use Rattle.backing.specs.Tree.{Tree, kind_of}
 use Rattle.path_cache.specs.declared.places.Place.{Place}
@@ -11,6 +12,7 @@ use Rattle.disk_folder.specs.declared.opened.Open.{Open}
 use Rattle.disk.specs.Names.{IsLawfulName}
 use Rattle.disk_folder.specs.declared.opened.Held.{Held}
 use Rattle.disk_folder.specs.declared.opened.Entry.{Entry}
+use Rattle.disk_folder.specs.declared.opened.KeptEntry.{KeptEntry}
 use Rattle.disk_folder.specs.declared.opened.Held.TheVariants.{Kept, Own}
 use Rattle.disk_folder.specs.declared.open_cache.OpenCache.{OpenCache}
 
@@ -104,6 +106,14 @@ pub record StandsIn {H : Type 0} (at : Tree) (stands : H → Names → Type 0) (
   pub up : Names
   pub whole : path ≡ up ++ entry.name.now ∷ []
   pub folder : IsFolderAt at stands c entry.folder up
+
+-- the path is that of the root or of a folder that is kept, and then the name, which a folder can hold
+pub record IsKeptEntry {H : Type 0} (c : OpenCache H) (entry : KeptEntry) (path : Names) : Type 0 where
+  pub up : Names
+  pub whole : path ≡ up ++ entry.name.now ∷ []
+  pub at : IsAt c.cache entry.folder up
+  pub kind : (up ≡ []) ⊎ (kind_at c entry.folder ≡ Some kinds.Folder)
+  pub lawful : IsLawfulName entry.name.now
 
 -- what was opened at that path is a file, and stands there
 pub record IsOpenFile {H : Type 0} (at : Tree) (stands : H → Names → Type 0) (q : Names) (opened : Open H) : Type 0 where

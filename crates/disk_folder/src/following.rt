@@ -4,7 +4,7 @@ ghost use Rattle.std.specs.Prelude.{◌≡◌, ◌++◌, ◌∷◌, []};
 ghost use Rattle.paths.specs.Prefixes.{Names};
 ghost use Rattle.disk.specs.Answers.{AreApart};
 ghost use Rattle.disk_folder.specs.Moving.{Follows};
-ghost use Rattle.disk_folder.specs.Standing.{IsHeld, IsHeldAt, KeepsAll};
+ghost use Rattle.disk_folder.specs.Standing.{IsHeld, IsHeldAt};
 
 use crate::open_cache::OpenCache;
 use crate::opened::Entry;
@@ -13,22 +13,8 @@ use backing::Answer;
 use disk::Disk;
 use payload::Kind;
 
-/// Whether what is kept there is reached by its name.
-fn is_by_name<D: Disk>(
-    disk: &D,
-    cache: &mut OpenCache<D::Handle>,
-    entry: &Entry<'_, D::Handle>,
-) -> bool
-    requires { IsHeld cache.old entry.now.folder }
-    ensures { KeepsAll cache.old cache.new }
-{
-    match cache.child(&entry.folder, entry.name) {
-        Some(place) => disk.is_by_name(&cache.cache.value(place).handle),
-        None => false,
-    }
-}
-
-/// What is kept under the one name is kept under the other one. Where it is reached by its name, all is closed.
+/// What is kept under the one name is kept under the other one. Where it is reached by its name, all is closed; where nothing is kept, nothing
+/// comes to the other name.
 pub fn follow<D: Disk>(
     disk: &D,
     cache: &mut OpenCache<D::Handle>,
@@ -38,10 +24,15 @@ pub fn follow<D: Disk>(
     requires { IsHeld cache.old source.now.folder }
     ensures { (up above : Names) → IsHeldAt cache.old source.now.folder up → IsHeldAt cache.old target.now.folder above → AreApart (up ++ source.now.name.now ∷ []) (above ++ target.now.name.now ∷ []) → Follows cache.old (up ++ source.now.name.now ∷ []) (above ++ target.now.name.now ∷ []) cache.new }
 {
-    if is_by_name(disk, cache, source) {
-        cache.clear();
-    } else {
-        cache.relocate(source, target);
+    match cache.child(&source.folder, source.name) {
+        None => cache.forget(target),
+        Some(place) => {
+            if disk.is_by_name(&cache.cache.value(place).handle) {
+                cache.clear();
+            } else {
+                cache.relocate(source, target);
+            }
+        }
     }
 }
 

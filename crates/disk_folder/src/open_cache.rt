@@ -91,16 +91,12 @@ impl<H: Drop> OpenCache<H> {
         self.cache.make_room(n);
     }
 
-    /// Where the name is kept below the folder, as a folder that is used without a look at it. It counts as used since that look.
-    pub fn trusted_folder<'a>(&self, folder: &Held<'_, H>, name: &'a Name) -> Option<Place<'a>>
-        requires { IsHeld self.now folder.now }
-        ensures found { (up : Names) → IsHeldAt self.now folder.now up → IfSome result (λ place. IsAt self.now.cache place (up ++ name.now ∷ [])) }
+    /// Where the name is kept in the folder there, as a folder that is used without a look at it.
+    fn trusted_child<'a>(&self, folder: Place<'_>, name: &'a Name) -> Option<Place<'a>>
+        ensures found { (up : Names) → IsAt self.now.cache folder.entry up → IfSome result (λ place. IsAt self.now.cache place (up ++ name.now ∷ [])) }
         ensures kind { IfSome result (λ place. kind_at self.now place ≡ Some kinds.Folder) }
     {
-        let Held::Kept(folder) = folder else {
-            return None;
-        };
-        let Some(found) = self.cache.peek(*folder, name) else {
+        let Some(found) = self.cache.peek(folder, name) else {
             return None;
         };
         match found.value.kind {
@@ -113,6 +109,33 @@ impl<H: Drop> OpenCache<H> {
                 }
             }
         }
+    }
+
+    /// Where the name is kept below the folder, as a folder that is used without a look at it. It counts as used since that look.
+    pub fn trusted_folder<'a>(&self, folder: &Held<'_, H>, name: &'a Name) -> Option<Place<'a>>
+        requires { IsHeld self.now folder.now }
+        ensures found { (up : Names) → IsHeldAt self.now folder.now up → IfSome result (λ place. IsAt self.now.cache place (up ++ name.now ∷ [])) }
+        ensures kind { IfSome result (λ place. kind_at self.now place ≡ Some kinds.Folder) }
+    {
+        match folder {
+            Held::Kept(place) => self.trusted_child(*place, name),
+            Held::Own(_) => None,
+        }
+    }
+
+    /// Where the folder at the path is kept, if it and each one above it are used without a look.
+    pub fn trusted_way<'a>(&self, names: &'a [Name]) -> Option<Place<'a>>
+        ensures found { IfSome result (λ place. IsAt self.now.cache place names.now) }
+        ensures kind { IfSome result (λ place. (names.now ≡ []) ⊎ (kind_at self.now place ≡ Some kinds.Folder)) }
+    {
+        let mut place = Place::Root;
+        for name in names {
+            match self.trusted_child(place, name) {
+                Some(next) => place = next,
+                None => return None,
+            }
+        }
+        Some(place)
     }
 
     /// A look at the name has shown which file or folder stands there, or none: what is kept there stays if it is that one.

@@ -45,3 +45,10 @@ pub struct Entry<'a, H: Drop> {
     pub folder: Held<'a, H>,
     pub name: &'a Name,
 }
+
+/// A name in a folder that stays open, and is used without a look at it.
+#[derive(Clone, Copy)]
+pub struct KeptEntry<'a> {
+    pub folder: Place<'a>,
+    pub name: &'a Name,
+}

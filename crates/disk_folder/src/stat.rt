@@ -12,9 +12,9 @@ ghost use Rattle.disk_folder.specs.Suits.{Suits};
 use crate::listed::{Listed, recall_seen};
 use crate::look::{Seen, look_at, look_open};
 use crate::open_cache::OpenCache;
-use crate::opened::Held;
+use crate::opened::{Entry, Held, KeptEntry};
 use crate::trouble::Trouble;
-use crate::walk::go_above;
+use crate::walk::{go_above, kept_entry};
 use backing::Answer;
 use disk::Disk;
 use path_cache::Place;
@@ -27,6 +27,22 @@ fn see_root<D: Disk>(disk: &D, cache: &OpenCache<D::Handle>) -> Result<Seen, Tro
     ensures err { AllStand (D.tree disk.now) (D.stands disk.now) cache.now → IfErr result (IsRefused (D.tree disk.now) (present_tests [])) }
 {
     look_open(disk, &cache.open(&Held::Kept(Place::Root)).handle)
+}
+
+/// What stands at a path below the root: one look, behind the way to its folder.
+fn see_below<D: Disk>(
+    disk: &D,
+    cache: &mut OpenCache<D::Handle>,
+    path: &Path,
+) -> Result<Seen, Trouble>
+    ensures ok { AllStand (D.tree disk.now) (D.stands disk.now) cache.old → IfOk result (IsSeen (D.tree disk.now) path.now) }
+    ensures err { AllStand (D.tree disk.now) (D.stands disk.now) cache.old → IfErr result (IsRefused (D.tree disk.now) (present_tests path.now)) }
+    ensures stand { AllStand (D.tree disk.now) (D.stands disk.now) cache.old → AllStand (D.tree disk.now) (D.stands disk.now) cache.new }
+{
+    match go_above(disk, cache, path) {
+        Ok(entry) => look_at(disk, cache, &entry),
+        Err(trouble) => Err(trouble),
+    }
 }
 
 /// What stands there: one look, behind the way to its folder.
@@ -42,9 +58,12 @@ pub fn see<D: Disk>(
     if path.len() == 0 {
         return see_root(disk, cache);
     }
-    match go_above(disk, cache, path) {
-        Ok(entry) => look_at(disk, cache, &entry),
-        Err(trouble) => Err(trouble),
+    match kept_entry(cache, path) {
+        Some(KeptEntry { folder, name }) => {
+            let folder = Held::Kept(folder);
+            look_at(disk, cache, &Entry { folder, name })
+        }
+        None => see_below(disk, cache, path),
     }
 }
 

@@ -9,13 +9,14 @@ ghost use Rattle.backing.specs.Tree.{Resolves};
 ghost use Rattle.disk.specs.Answers.{AreApart};
 ghost use Rattle.disk_folder.specs.Ends.{EndsOrStays};
 ghost use Rattle.disk_folder.specs.Moving.{IsLost, MovesOrStays};
-ghost use Rattle.disk_folder.specs.Standing.{AllStand, IsEntry, IsFolderAt};
+ghost use Rattle.disk_folder.specs.Standing.{AllStand, IsEntry, IsFolderAt, IsKeptEntry};
 
 use crate::following::follow;
 use crate::open_cache::OpenCache;
-use crate::opened::Entry;
+use crate::opened::{Entry, Held, KeptEntry};
 use crate::renaming::{expect_target, go_both, see_target};
 use crate::trouble::Trouble;
+use crate::walk::kept_entry;
 use backing::Answer;
 use disk::{Disk, DiskError};
 use paths::Path;
@@ -98,6 +99,48 @@ fn move_both<D: Disk>(
     }
 }
 
+/// Renames, to a path to which folders lead where the way to it shows that.
+fn move_behind<D: Disk>(
+    disk: &mut D,
+    cache: &mut OpenCache<D::Handle>,
+    from: &Path,
+    to: &Path,
+) -> Option<Result<Answer, Trouble>>
+    requires { AreApart from.now to.now }
+    ensures suits { IfSome result (λ ended. IfOk ended (λ answer. answer ≡ Done)) }
+    ensures ends { AllStand (D.tree disk.old) (D.stands disk.old) cache.old → EndsOrStays (D.tree disk.old) (AskRename from.now to.now) result (D.tree disk.new) }
+    ensures stand { AllStand (D.tree disk.old) (D.stands disk.old) cache.old → AllStand (D.tree disk.new) (D.stands disk.new) cache.new }
+{
+    match expect_target(disk, cache, to) {
+        Ok(()) => move_both(disk, cache, from, to),
+        Err(_) => None,
+    }
+}
+
+/// Renames from a kept folder to a kept folder.
+fn move_kept<D: Disk>(
+    disk: &mut D,
+    cache: &mut OpenCache<D::Handle>,
+    source: KeptEntry<'_>,
+    target: KeptEntry<'_>,
+) -> Option<Result<Answer, Trouble>>
+    requires source { (p : Names) × IsKeptEntry cache.old source p }
+    requires target { (p : Names) × IsKeptEntry cache.old target p }
+    ensures suits { IfSome result (λ ended. IfOk ended (λ answer. answer ≡ Done)) }
+    ensures ends { (from to : Names) → IsKeptEntry cache.old source.entry from → IsKeptEntry cache.old target.entry to → AreApart from to → AllStand (D.tree disk.old) (D.stands disk.old) cache.old → EndsOrStays (D.tree disk.old) (AskRename from to) result (D.tree disk.new) }
+    ensures stand { (from to : Names) → IsKeptEntry cache.old source.entry from → IsKeptEntry cache.old target.entry to → AreApart from to → AllStand (D.tree disk.old) (D.stands disk.old) cache.old → AllStand (D.tree disk.new) (D.stands disk.new) cache.new }
+{
+    let source = Entry {
+        folder: Held::Kept(source.folder),
+        name: source.name,
+    };
+    let target = Entry {
+        folder: Held::Kept(target.folder),
+        name: target.name,
+    };
+    move_in(disk, cache, &source, &target)
+}
+
 /// Gives what stands at the one path the other one, where no look at either is needed: one call.
 pub fn rename_unseen<D: Disk>(
     disk: &mut D,
@@ -112,9 +155,12 @@ pub fn rename_unseen<D: Disk>(
     if !needs_no_look(disk, from, to) {
         return None;
     }
-    match expect_target(disk, cache, to) {
-        Ok(()) => move_both(disk, cache, from, to),
-        Err(_) => None,
+    match kept_entry(cache, from) {
+        None => move_behind(disk, cache, from, to),
+        Some(source) => match kept_entry(cache, to) {
+            None => move_behind(disk, cache, from, to),
+            Some(target) => move_kept(disk, cache, source, target),
+        },
     }
 }
 

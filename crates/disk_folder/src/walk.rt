@@ -4,12 +4,12 @@ ghost use Rattle.std.specs.Prelude.{ℕ, ◌≡◌, ◌++◌, ◌∷◌, [], IfO
 ghost use Rattle.paths.specs.Prefixes.{Names};
 ghost use Rattle.path_cache.specs.Cache.{IsAt};
 ghost use Rattle.payload.specs.declared.attributes.Kind.TheVariants as kinds;
-ghost use Rattle.disk_folder.specs.Standing.{AllStand, IsEntry, IsEntryOf, IsFolderAt, IsHeld, IsHeldAt, IsOpenFolder, StandsIn, kind_at};
+ghost use Rattle.disk_folder.specs.Standing.{AllStand, IsEntry, IsEntryOf, IsFolderAt, IsHeld, IsHeldAt, IsKeptEntry, IsOpenFolder, StandsIn, kind_at};
 ghost use Rattle.disk_folder.specs.Troubles.{IsBarred, IsBlocked, IsFailure, IsStopped};
 
 use crate::look::{expect_lawful, look_at, look_only};
 use crate::open_cache::OpenCache;
-use crate::opened::{Entry, Held, Open};
+use crate::opened::{Entry, Held, KeptEntry, Open};
 use crate::trouble::{Reason, Trouble, failure};
 use disk::{Access, Disk, DiskError};
 use errno::{EIO, ENOTDIR};
@@ -188,8 +188,24 @@ pub fn reach<'a, D: Disk>(
     Ok(folder)
 }
 
-/// Goes down to the folder that the path is in, which is not the root: that folder, and the last name.
-pub fn go_above<'a, D: Disk>(
+/// The last name of the path, where its folder and each one above that are kept and used without a look: no call of the system.
+pub fn kept_entry<'a, H: Drop>(cache: &OpenCache<H>, path: &'a Path) -> Option<KeptEntry<'a>>
+    ensures { IfSome result (λ entry. IsKeptEntry cache.now entry path.now) }
+{
+    match path.names().split_last() {
+        None => None,
+        Some((name, above)) => match expect_lawful(name) {
+            Ok(()) => match cache.trusted_way(above) {
+                Some(folder) => Some(KeptEntry { folder, name }),
+                None => None,
+            },
+            Err(_) => None,
+        },
+    }
+}
+
+/// Goes down to the folder that the path is in, which is not the root, by looks where they are needed.
+fn walk_above<'a, D: Disk>(
     disk: &D,
     cache: &mut OpenCache<D::Handle>,
     path: &'a Path,
@@ -208,5 +224,25 @@ pub fn go_above<'a, D: Disk>(
             },
             Err(trouble) => Err(trouble),
         },
+    }
+}
+
+/// Goes down to the folder that the path is in, which is not the root: that folder, and the last name.
+pub fn go_above<'a, D: Disk>(
+    disk: &D,
+    cache: &mut OpenCache<D::Handle>,
+    path: &'a Path,
+) -> Result<Entry<'a, D::Handle>, Trouble>
+    ensures entry { IfOk result (λ entry. IsEntryOf cache.new entry path.now) }
+    ensures ok { AllStand (D.tree disk.now) (D.stands disk.now) cache.old → IfOk result (λ entry. StandsIn (D.tree disk.now) (D.stands disk.now) cache.new entry path.now) }
+    ensures stand { AllStand (D.tree disk.now) (D.stands disk.now) cache.old → AllStand (D.tree disk.now) (D.stands disk.now) cache.new }
+    ensures err { AllStand (D.tree disk.now) (D.stands disk.now) cache.old → IfErr result (IsStopped (D.tree disk.now) path.now) }
+{
+    match kept_entry(cache, path) {
+        Some(KeptEntry { folder, name }) => Ok(Entry {
+            folder: Held::Kept(folder),
+            name,
+        }),
+        None => walk_above(disk, cache, path),
     }
 }

@@ -1,5 +1,6 @@
 -- When two keys are the same, and when a key is that of a name in a folder.
-use Rattle.std.specs.Prelude.{ℕ, ◌≡◌, ◌==◌, Bool, true, nat_eq}
+use Rattle.std.specs.Prelude.{ℕ, ◌≡◌, ◌==◌, ◌&&◌, ◌++◌, ◌∷◌, [], List, Bool, true, nat_eq}
+use Rattle.std.specs.Hash as fed
 use Rattle.std.specs.Ordering.{eq_of_both, on}
 use Rattle.std.specs.Cmp.Lexicographic.{pointwise, bytes_decides}
 use Rattle.std.proofs.Common.{ap, ◌∙◌}
@@ -26,3 +27,13 @@ key_is parent name key is =
 
 pub is_key-congr : (parent : ℕ) (name : Name) (x y : Key) → is_key parent name x ≡ true → is_key parent name y ≡ same_key x y
 is_key-congr parent name x y is = ap (λ (k : Key). same_key k y) (key_is parent name x is)
+
+-- what a key feeds a hasher: the number of the folder's entry, and the bytes of the name
+abbrev pub fed_key : ℕ → Name → List (List ℕ)
+fed_key parent name = fed.u64 parent ++ name ∷ []
+
+pub same_fed : (parent other : ℕ) (name that : Name) → ((parent == other) && pointwise nat_eq name that) ≡ true → fed_key parent name ≡ fed_key other that
+same_fed parent other name that is =
+    let parts = and_parts (parent == other) (pointwise nat_eq name that) is in
+    ap (λ (n : ℕ). fed_key n name) (eqb-true parent other parts.0)
+    ∙ ap (λ (bytes : Name). fed_key other bytes) ((bytes_decides name that).0 parts.1)

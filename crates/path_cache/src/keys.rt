@@ -1,17 +1,19 @@
 //! The key of an entry, and a query for it that copies no name.
 
+ghost use Rattle.std.specs.Prelude.{◌≡◌};
+ghost use Rattle.std.specs.List.{fold};
 ghost use Rattle.std.specs.Cmp.Rules.{comparing};
 ghost use Rattle.std.proofs.Common.{rules};
 ghost use Rattle.std.proofs.Common.{ap};
 ghost use Rattle.path_cache.specs.declared.keys.Key.{Key};
-ghost use Rattle.path_cache.specs.Keys.{same_key, is_key, key_is, is_key-congr};
+ghost use Rattle.path_cache.specs.Keys.{same_key, is_key, key_is, is_key-congr, fed_key, same_fed};
 
 use paths::Name;
 use std::collections::hash_map::Equivalent;
-use std::hash::Hash;
+use std::hash::{Hash, Hasher};
 
 /// A name in the folder whose entry has that number.
-#[derive(Eq, Hash, Drop)]
+#[derive(Eq, Drop)]
 pub struct Key {
     pub(crate) parent: u64,
     pub(crate) name: Name,
@@ -27,11 +29,40 @@ impl PartialEq for Key {
     }
 }
 
+impl Hash for Key {
+    // The number comes first and has eight bytes, so nothing needs to end the name: no two keys give a hasher the same bytes.
+    ghost hash_input = { λ k. fed_key k.parent k.name };
+
+    ghost respects_eq = { λ x y same. ap (λ (k : Key). fed_key k.parent k.name) (key_is x.parent x.name y same) };
+
+    fn hash<H: Hasher>(&self, state: &mut H) {
+        feed(self.parent, &self.name, state);
+    }
+}
+
+/// Feeds the key of that name in that folder.
+fn feed<H: Hasher>(parent: u64, name: &Name, state: &mut H)
+    ensures { state.new ≡ fold H.write state.old (fed_key parent name.now) }
+{
+    state.write_u64(parent);
+    state.write(name.as_bytes());
+}
+
 /// What stands for the key of that name in that folder.
-#[derive(Clone, Copy, PartialEq, Eq, Hash)]
+#[derive(Clone, Copy, PartialEq, Eq)]
 pub(crate) struct Query<'a> {
     pub(crate) parent: u64,
     pub(crate) name: &'a Name,
+}
+
+impl<'a> Hash for Query<'a> {
+    ghost hash_input = { λ q. fed_key q.parent q.name.now };
+
+    ghost respects_eq = { λ x y same. same_fed x.parent y.parent x.name.now y.name.now same };
+
+    fn hash<H: Hasher>(&self, state: &mut H) {
+        feed(self.parent, self.name, state);
+    }
 }
 
 impl<'a> Equivalent<Key> for Query<'a> {
