@@ -87,11 +87,10 @@ impl Session {
         ensures keeps { KeepsBook R.steps self.old (R.world table.old) share.old self.new (R.world table.new) share.new }
     {
         let request = attempt.request;
-        let script = match Script::start(self.alloc, self.settings, request, &ticket) {
-            Ok(script) => script,
+        let found = match Script::start(self.alloc, self.settings, request, &ticket) {
+            Ok(script) => play(&mut served.calls, script),
             Err(_) => return self.end_without_script(link, table, share, request, ticket),
         };
-        let found = play(&mut served.calls, script);
         let page = attempt.page();
         let begun = Begun {
             request,

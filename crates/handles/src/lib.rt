@@ -19,3 +19,4 @@ pub use lent::Lent;
 pub use limits::{FolderLimits, MAX_KEPT_NAMES, MAX_OPEN_FOLDERS};
 pub use listing::{Listing, ListingFault};
 pub use page::{Page, PageFault};
+pub use paging::page_len;

@@ -1,7 +1,8 @@
 //! Pages of a listing, by the number of bytes that they take.
 
-ghost use Rattle.std.specs.Prelude.{◌≡◌, ◌≤◌, drop, take, length};
-ghost use Rattle.handles.specs.Pages.{IsPage, IsLongestRun, padded};
+ghost use Rattle.std.specs.Option.{SomeIff};
+ghost use Rattle.std.specs.Prelude.{◌≡◌, ◌<◌, ◌≤◌, ◌^◌, drop, take, length};
+ghost use Rattle.handles.specs.Pages.{IsPage, IsLongestRun, bytes_of, padded};
 
 use crate::listing::Listing;
 use crate::page::{Page, PageFault};
@@ -54,6 +55,18 @@ fn run_len(entries: &[Child], size: u32, plus: bool) -> usize
         left -= len;
     }
     entries.len()
+}
+
+/// How many bytes a page with these entries takes, if a `usize` can hold that. With `plus` each has its attributes
+/// before it. It does not allocate.
+pub fn page_len(entries: &[Child], plus: bool) -> Option<usize>
+    ensures { SomeIff result (bytes_of plus entries.now < 2 ^ 64) (bytes_of plus entries.now) }
+{
+    let mut sum = 0usize;
+    for entry in entries {
+        sum = sum.checked_add(padded_len(entry, plus) as usize)?;
+    }
+    Some(sum)
 }
 
 /// The bytes of an entry: its head, its name, and padding to a multiple of 8.

@@ -1,5 +1,6 @@
 -- How many bytes the entries of an open folder take.
-use Rattle.std.proofs.Common.{◌≡◌, ℕ, ◌+◌, ◌*◌, ◌/◌, ◌%◌, ◌-◌, true, false, if◌then◌else◌, List, [], ◌∷◌, ◌++◌, length, drop, Option, Some, None, refl, ap, arith}
+use Rattle.std.proofs.Common.{◌≡◌, ℕ, ◌+◌, ◌*◌, ◌/◌, ◌%◌, ◌-◌, true, false, if◌then◌else◌, List, [], ◌∷◌, ◌++◌, length, drop, Option, Some, None, refl, ap, sym, ◌∙◌, arith}
+use Rattle.std.proofs.Math.Seq.{drop-append_seam}
 use Rattle.std.specs.List.{flat_map}
 use Rattle.std.proofs.lemmas.List.{length-append}
 use Rattle.std.proofs.lemmas.List.Sums.{sum_by-cons}
@@ -54,3 +55,8 @@ length-entries s at (c ∷ cs) founds givens =
       | true ↦ omega (arith, length-append (plus_bytes dot) (flat_map plus_bytes same), length-entry s (at + 1) c None None, sum_by-cons (padded true) c cs, length-entries s (at + 1) cs founds givens)
       | false ↦ omega (arith, length-append (plus_bytes name) (flat_map plus_bytes more), length-entry s (at + 1) c (first founds) (first givens), sum_by-cons (padded true) c cs, length-entries s (at + 1) cs (drop 1 founds) (drop 1 givens))
     ]
+
+-- ---- what is written behind room for a header
+
+pub behind_room : (room page bytes : List ℕ) (n : ℕ) → length room ≡ n → page ≡ room ++ bytes → drop n page ≡ bytes
+behind_room room page bytes n len is = ap (λ (k : ℕ). drop k page) (sym len) ∙ (ap (λ (all : List ℕ). drop (length room) all) is ∙ drop-append_seam room bytes)

@@ -1,6 +1,6 @@
 //! READDIRPLUS: a page of an open folder whose names are looked up, and the reply with it.
 
-ghost use Rattle.std.specs.Prelude.{◌≡◌, ◌+◌, ◌^◌, ◌<◌, ◌++◌, true, length, drop, IfOk, OnOk};
+ghost use Rattle.std.specs.Prelude.{◌≡◌, ◌+◌, ◌^◌, ◌<◌, ◌++◌, true, length, drop, option_map, IfOk, OnOk};
 ghost use Rattle.handles.specs.Names.{is_dot};
 ghost use Rattle.handles.specs.Pages.{bytes_of};
 ghost use Rattle.ops.specs.Folders.{CarriesAtMost};
@@ -10,11 +10,12 @@ ghost use Rattle.wire.specs.Dirents.{plus_bytes};
 ghost use Rattle.wire.specs.declared.reply.ReplyBody.TheVariants.{Data as Told};
 
 use crate::findings::FoundFile;
+use crate::folders::page_in;
 use crate::replies::entry_of;
 use backing::Child;
 use handles::Page;
 use paths::Name;
-use payload::Payload;
+use payload::{HEADER_ROOM, Payload};
 use std::alloc::{AllocError, Global};
 use std::marker::Model;
 use table_requests::{Given, Names, Want};
@@ -57,7 +58,7 @@ fn copy_entries(alloc: Global, entries: &[Child]) -> Result<Vec<Child>, AllocErr
 fn names_on(alloc: Global, entries: &[Child]) -> Result<Names, AllocError>
     ensures { IfOk result (λ names. names ≡ names_on entries.now) }
 {
-    let mut names = Vec::new(alloc);
+    let mut names = Vec::with_capacity(alloc, entries.len())?;
     for child in entries {
         if !is_dot(&child.name) {
             names.push(child.name.copy()?)?;
@@ -109,15 +110,15 @@ fn put_entry(
     settings: Settings,
     next: u64,
     child: &Child,
-    found: Option<FoundFile>,
-    given: Option<Given>,
+    found: Option<&FoundFile>,
+    given: Option<&Given>,
 ) -> Result<(), AllocError>
-    ensures { OnOk result (out.new.items ≡ out.old.items ++ plus_bytes (plus_entry settings next child.now found given)) }
+    ensures { OnOk result (out.new.items ≡ out.old.items ++ plus_bytes (plus_entry settings next child.now (option_map (λ f. f.now) found.entry) (option_map (λ g. g.now) given.entry))) }
 {
     let name = child.name.as_bytes();
     match (found, given) {
         (Some(found), Some(given)) => {
-            let entry = entry_of(settings, found, given);
+            let entry = entry_of(settings, *found, *given);
             encode_plus_dirent(out, Some(entry), next, found.kind, name)
         }
         _ => encode_plus_dirent(out, None, next, child.kind, name),
@@ -125,12 +126,12 @@ fn put_entry(
 }
 
 /// The first item, if any.
-fn first_of<T: Copy>(items: &[Option<T>]) -> Option<T>
-    ensures { result ≡ first items.now }
+fn first_of<T: Copy>(items: &[Option<T>]) -> Option<&T>
+    ensures { option_map (λ item. item.now) result ≡ first items.now }
 {
-    match items.first() {
-        Some(item) => *item,
-        None => None,
+    match items {
+        [Some(item), ..] => Some(item),
+        _ => None,
     }
 }
 
@@ -192,8 +193,8 @@ pub fn entries_reply(
     ensures ok { IfOk result (λ body. body ≡ Told (entries_bytes settings page.now.from page.now.entries founds.now givens.now)) }
     ensures short { IfOk result (λ body. CarriesAtMost (bytes_of true page.now.entries) body) }
 {
-    let mut entries = Vec::new(alloc);
+    let mut entries = page_in(alloc, &page.entries, true)?;
     let from = page.from;
     put_entries(&mut entries, settings, from, &page.entries, founds, givens)?;
-    Ok(ReplyBody::Data(Payload::new(entries)))
+    Ok(ReplyBody::Data(Payload::behind(HEADER_ROOM, entries)))
 }

@@ -6,10 +6,22 @@ ghost use Rattle.ops.specs.Folders.{CarriesAtMost, IsPaged, names_bytes, names_r
 
 use backing::Child;
 use errno::EINVAL;
-use handles::{Listing, PageFault};
-use payload::Payload;
+use handles::{Listing, PageFault, page_len};
+use payload::{HEADER_ROOM, Payload};
 use std::alloc::{AllocError, Global};
 use wire::{NO_INO, ReplyBody, encode_dirent};
+
+/// Room for the header of a reply, and after it no entries yet, with memory for these.
+pub(crate) fn page_in(alloc: Global, entries: &[Child], plus: bool) -> Result<Vec<u8>, AllocError>
+    ensures { IfOk result (λ page. length page.items ≡ HEADER_ROOM) }
+{
+    let Some(len) = page_len(entries, plus) else {
+        return Err(AllocError);
+    };
+    let mut page = Vec::with_capacity(alloc, len.saturating_add(HEADER_ROOM))?;
+    page.extend_from_slice(&[0; HEADER_ROOM])?;
+    Ok(page)
+}
 
 /// Appends entries to a vector. The first one has index `from`.
 fn put_names(out: &mut Vec<u8>, from: u64, children: &[Child]) -> Result<(), AllocError>
@@ -40,7 +52,7 @@ pub fn names_reply(
         Ok(page) => page,
         Err(PageFault::Small) => return Ok(ReplyBody::Failed { errno: EINVAL }),
     };
-    let mut names = Vec::new(alloc);
+    let mut names = page_in(alloc, page.entries, false)?;
     put_names(&mut names, page.from, page.entries)?;
-    Ok(ReplyBody::Data(Payload::new(names)))
+    Ok(ReplyBody::Data(Payload::behind(HEADER_ROOM, names)))
 }

@@ -34,6 +34,7 @@ fn index_of(left: &[Path]) -> u8
 }
 
 /// The script of an UNLINK of the first path of its ticket.
+#[inline(never)]
 pub(crate) fn start_unlink(ticket: &Ticket) -> Script<'_>
     ensures { plan_ahead result ≡ at_candidates ticket.now.paths (λ p candidates. unlink ticket.now.hide p candidates) }
 {
@@ -79,6 +80,7 @@ impl<'a> Hiding<'a> {
     ghost use Rattle.ops.specs.Scripts.{after};
 
     /// What is left to do after the answer to the Stat of the next candidate.
+    #[inline(never)]
     pub fn on(self, answer: Answer) -> Script<'a>
         ensures plan { plan_ahead result ≡ after (plan_hiding self.entry) answer }
         ensures fewer { 0 < calls_in self.entry → calls_left result < calls_in self.entry }

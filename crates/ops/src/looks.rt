@@ -109,6 +109,7 @@ impl<'a> Looks<'a> {
     }
 
     /// Takes the answer to the next Stat. It does not allocate.
+    #[inline(never)]
     pub fn feed(&mut self, answer: Answer)
         ensures { self.new ≡ looked_on self.old.left self.old.found answer }
     {

@@ -99,6 +99,7 @@ impl<'a> Making<'a> {
     }
 
     /// What is left to do after the answer to the Stat.
+    #[inline(never)]
     pub fn on(self, answer: Answer) -> LastCall<'a>
         ensures plan { plan_ending result ≡ after (plan_making self.entry) answer }
         ensures few { calls_ending result < 4 }
@@ -143,6 +144,7 @@ fn made<'a>(
 
 /// The script of a MKDIR. A folder keeps its bits when its owner changes, so they are not set once more: `mkdir(2)` has
 /// already left out those that the host takes from nobody.
+#[inline(never)]
 pub(crate) fn start_make_dir<'a>(
     attributes: AttributeSource,
     caller: Caller,
@@ -160,6 +162,7 @@ pub(crate) fn start_make_dir<'a>(
 }
 
 /// The script of a CREATE.
+#[inline(never)]
 pub(crate) fn start_create<'a>(
     attributes: AttributeSource,
     caller: Caller,
@@ -177,6 +180,7 @@ pub(crate) fn start_create<'a>(
 }
 
 /// The script of a SYMLINK.
+#[inline(never)]
 pub(crate) fn start_make_link<'a>(
     attributes: AttributeSource,
     caller: Caller,

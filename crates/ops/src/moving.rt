@@ -19,6 +19,7 @@ use payload::Kind;
 use table::Ticket;
 
 /// The script of a RENAME from the first path of its ticket to the second.
+#[inline(never)]
 pub(crate) fn start_rename(ticket: &Ticket) -> Script<'_>
     ensures { plan_ahead result ≡ at_paths ticket.now.paths (λ s t candidates. rename ticket.now.same ticket.now.hide s t candidates) }
 {
@@ -39,6 +40,7 @@ pub(crate) fn start_rename(ticket: &Ticket) -> Script<'_>
 }
 
 /// The script of a RENAME2 with these flags.
+#[inline(never)]
 pub(crate) fn start_rename_by(flags: u32, ticket: &Ticket) -> Script<'_>
     ensures { plan_ahead result ≡ at_paths ticket.now.paths (λ s t candidates. rename_by flags ticket.now.same ticket.now.hide s t candidates) }
 {
@@ -92,6 +94,7 @@ fn start_exchange(ticket: &Ticket) -> Script<'_>
 
 /// What is left to do after the answer to the Stat of the source. A folder cannot replace a file, so that is ENOTDIR,
 /// as for the move alone, and it is found out before anything is hidden.
+#[inline(never)]
 pub(crate) fn replace_on<'a>(
     from: &'a Path,
     to: &'a Path,
@@ -122,6 +125,7 @@ pub(crate) fn replace_on<'a>(
 }
 
 /// The result of the second move, after a file was moved to that candidate. If it fails, the first move is not undone.
+#[inline(never)]
 pub(crate) fn moved(from: &Path, to: &Path, candidate: u8, answer: Answer) -> ScriptResult
     ensures { Over (end_of result) ≡ if_moved candidate (judged (AskRename from.now to.now) answer) }
 {

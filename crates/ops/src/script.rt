@@ -2,7 +2,9 @@
 //! one for each name of a page. A move that hides changes two names, one after the other.
 
 ghost use Rattle.std.specs.Prelude.{◌≡◌, ◌<◌};
+ghost use Rattle.backing.specs.Calls.{asked};
 ghost use Rattle.ops.specs.Ahead.{calls_left, end_of, plan_ahead, unless};
+ghost use Rattle.ops.specs.Judged.{judged};
 ghost use Rattle.ops.specs.Scripts.{after, if_done, next_of, AsksNext, End, Over, Plan};
 
 use crate::findings::ScriptResult;
@@ -91,12 +93,13 @@ pub(crate) const DONE: LastCall<'static> = LastCall::Over(ScriptResult::Nothing)
 pub(crate) const UNFIT: LastCall<'static> = LastCall::Over(ScriptResult::Error { errno: EIO });
 
 /// The error with which a script ends after the answer to its change, if it is one.
-pub(crate) fn refused(answer: &Answer) -> Option<i32>
-    ensures { (rest : Plan) → if_done rest answer.now ≡ unless result rest }
+#[inline(never)]
+pub(crate) fn refused(call: Call<'_>, answer: Answer) -> Option<i32>
+    ensures { (rest : Plan) → if_done rest (judged (asked call.entry) answer) ≡ unless result rest }
 {
-    match answer {
+    match judge(call, answer) {
         Answer::Done => None,
-        other => Some(errno_in(other)),
+        other => Some(errno_in(&other)),
     }
 }
 
@@ -142,18 +145,14 @@ impl<'a> Script<'a> {
     {
         if let Some(call) = self.change {
             self.change = None;
-            if let Some(errno) = refused(&judge(call, answer)) {
+            if let Some(errno) = refused(call, answer) {
                 self.ending = LastCall::Over(ScriptResult::Error { errno });
             }
             return;
         }
         let finding = match &mut self.ending {
-            LastCall::Look { path, tells } => looked(
-                *tells,
-                path,
-                &judge(Call::Stat(path), answer),
-            ),
-            LastCall::List { path } => listed(judge(Call::List(path), answer)),
+            LastCall::Look { path, tells } => looked(*tells, path, answer),
+            LastCall::List { path } => listed(path, answer),
             LastCall::Read { path, offset, size } => read(path, *offset, *size, answer),
             LastCall::ReadLink { path } => read_link(path, answer),
             LastCall::Write { path, offset, data } => written(path, *offset, data, answer),

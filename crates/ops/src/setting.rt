@@ -7,7 +7,6 @@ ghost use Rattle.ops.specs.Parts.{parts_of};
 ghost use Rattle.ops.specs.Scripts.{after, look, make, next_of, set_parts, tell_attributes, Over};
 
 use crate::findings::ScriptResult;
-use crate::judging::judge;
 use crate::parts::{NewParts, parts_of};
 use crate::script::{LastCall, Script, refused};
 use crate::telling::{ReplyKind, looked};
@@ -137,6 +136,7 @@ impl<'a> Setting<'a> {
     }
 
     /// The next call.
+    #[inline(never)]
     pub fn next(self) -> Call<'a>
         ensures { next_of (plan_setting self.entry) ≡ Some (asked result) }
     {
@@ -147,15 +147,15 @@ impl<'a> Setting<'a> {
     }
 
     /// What is left to do after the answer to the next call.
+    #[inline(never)]
     pub fn on(self, answer: Answer) -> LastCall<'a>
         ensures plan { plan_ending result ≡ after (plan_setting self.entry) answer }
         ensures fewer { calls_ending result < calls_set self.entry.parts }
     {
         let Some((call, left)) = self.split() else {
-            let answer = judge(Call::Stat(self.path), answer);
-            return LastCall::Over(looked(self.tells, self.path, &answer));
+            return LastCall::Over(looked(self.tells, self.path, answer));
         };
-        match refused(&judge(call, answer)) {
+        match refused(call, answer) {
             Some(errno) => LastCall::Over(ScriptResult::Error { errno }),
             None => LastCall::Set(left),
         }
@@ -163,6 +163,7 @@ impl<'a> Setting<'a> {
 }
 
 /// The script of a SETATTR.
+#[inline(never)]
 pub(crate) fn start_set_attr<'a>(
     valid: u32,
     size: u64,

@@ -1,8 +1,9 @@
 //! How a script starts, by the operation of its request.
 
 ghost use Rattle.std.specs.Prelude.{◌≡◌, [], IfOk, OnErr};
+ghost use Rattle.backing.specs.Calls.{asked};
 ghost use Rattle.ops.specs.Ahead.{plan_ahead, plan_ending, told_of, LooksAtEach};
-ghost use Rattle.ops.specs.Scripts.{look, plan_of, release, Over};
+ghost use Rattle.ops.specs.Scripts.{at_names, done, look, make, plan_of, release, Over};
 ghost use Rattle.terms.specs.declared.settings.Settings.{Settings as Whose};
 ghost use Rattle.wire.specs.declared.request.Caller.{Caller as Whom};
 
@@ -22,13 +23,42 @@ use terms::Settings;
 use wire::{Operation, Request};
 
 /// A Stat of the path, whose answer is reported.
-fn look(path: &Path, tells: ReplyKind) -> LastCall<'_>
-    ensures { plan_ending result ≡ look path.now (λ found. Over (told_of tells path.now found)) }
+fn look(path: &Path, tells: ReplyKind) -> Script<'_>
+    ensures { plan_ahead result ≡ look path.now (λ found. Over (told_of tells path.now found)) }
 {
-    LastCall::Look { path, tells }
+    only(LastCall::Look { path, tells })
+}
+
+/// A script without a change.
+fn only(ending: LastCall<'_>) -> Script<'_>
+    ensures { plan_ahead result ≡ plan_ending ending.entry }
+{
+    Script {
+        change: None,
+        ending,
+    }
+}
+
+/// A script with a change alone.
+fn change(call: Call<'_>) -> Script<'_>
+    ensures { plan_ahead result ≡ make (asked call.entry) done }
+{
+    Script {
+        change: Some(call),
+        ending: DONE,
+    }
+}
+
+/// The script of a READDIRPLUS.
+#[inline(never)]
+fn start_looks(alloc: Global, ticket: &Ticket) -> Result<Script<'_>, AllocError>
+    ensures { IfOk result (λ script. plan_ahead script ≡ at_names ticket.now.paths) }
+{
+    Ok(only(end_with_looks(alloc, ticket)?))
 }
 
 /// The script of a RELEASE, which removes a hidden file with its last handle.
+#[inline(never)]
 fn start_release(ticket: &Ticket) -> Script<'_>
     ensures { plan_ahead result ≡ release ticket.now.last ticket.now.paths }
 {
@@ -44,16 +74,14 @@ fn start_release(ticket: &Ticket) -> Script<'_>
 }
 
 /// The script of a request whose ticket has no path.
+#[inline(never)]
 fn without_path<'a>(operation: Operation<'_>, ticket: &'a Ticket) -> Script<'a>
     requires { ticket.now.paths ≡ [] }
     ensures { (settings : Whose) (caller : Whom) → plan_ahead result ≡ plan_of settings caller operation.entry ticket.now }
 {
     match operation {
         Operation::Release { .. } => start_release(ticket),
-        _ => Script {
-            change: None,
-            ending: UNFIT,
-        },
+        _ => only(UNFIT),
     }
 }
 
@@ -79,37 +107,37 @@ impl<'a> Script<'a> {
         let Some(path) = ticket.paths().first() else {
             return Ok(without_path(operation, ticket));
         };
-        let (change, ending) = match operation {
-            Operation::Lookup { .. } => (None, look(path, ReplyKind::Entry)),
-            Operation::GetAttr => (None, look(path, ReplyKind::Attributes)),
+        let script = match operation {
+            Operation::Lookup { .. } => look(path, ReplyKind::Entry),
+            Operation::GetAttr => look(path, ReplyKind::Attributes),
             Operation::SetAttr {
                 valid,
                 size,
                 attributes,
                 ..
-            } => return Ok(start_set_attr(valid, size, attributes, path)),
+            } => start_set_attr(valid, size, attributes, path),
             Operation::MakeDir { mode, umask, .. } => {
-                return Ok(start_make_dir(settings.attributes, caller, mode, umask, path));
+                start_make_dir(settings.attributes, caller, mode, umask, path)
             }
             Operation::MakeLink { text, .. } => {
-                return Ok(start_make_link(settings.attributes, caller, text, path));
+                start_make_link(settings.attributes, caller, text, path)
             }
-            Operation::ReadLink => (None, LastCall::ReadLink { path }),
+            Operation::ReadLink => only(LastCall::ReadLink { path }),
             Operation::Create { mode, umask, .. } => {
-                return Ok(start_create(settings.attributes, caller, mode, umask, path));
+                start_create(settings.attributes, caller, mode, umask, path)
             }
-            Operation::Open { .. } => (None, look(path, ReplyKind::Opening)),
-            Operation::Read { offset, size, .. } => (None, LastCall::Read { path, offset, size }),
-            Operation::Write { offset, data, .. } => (None, LastCall::Write { path, offset, data }),
-            Operation::Sync { .. } => (Some(Call::Sync(path)), DONE),
-            Operation::Release { .. } => return Ok(start_release(ticket)),
-            Operation::OpenDir => (None, LastCall::List { path }),
-            Operation::Unlink { .. } => return Ok(start_unlink(ticket)),
-            Operation::RemoveDir { .. } => (Some(Call::RemoveDir(path)), DONE),
-            Operation::Rename { .. } => return Ok(start_rename(ticket)),
-            Operation::Link { .. } => return Ok(start_link(ticket)),
-            Operation::ReadDirPlus { .. } => (None, end_with_looks(alloc, ticket)?),
-            Operation::Rename2 { flags, .. } => return Ok(start_rename_by(flags, ticket)),
+            Operation::Open { .. } => look(path, ReplyKind::Opening),
+            Operation::Read { offset, size, .. } => only(LastCall::Read { path, offset, size }),
+            Operation::Write { offset, data, .. } => only(LastCall::Write { path, offset, data }),
+            Operation::Sync { .. } => change(Call::Sync(path)),
+            Operation::Release { .. } => start_release(ticket),
+            Operation::OpenDir => only(LastCall::List { path }),
+            Operation::Unlink { .. } => start_unlink(ticket),
+            Operation::RemoveDir { .. } => change(Call::RemoveDir(path)),
+            Operation::Rename { .. } => start_rename(ticket),
+            Operation::Link { .. } => start_link(ticket),
+            Operation::ReadDirPlus { .. } => return start_looks(alloc, ticket),
+            Operation::Rename2 { flags, .. } => start_rename_by(flags, ticket),
             Operation::Forget { .. }
             | Operation::StatFs
             | Operation::Init { .. }
@@ -119,8 +147,8 @@ impl<'a> Script<'a> {
             | Operation::SyncDir { .. }
             | Operation::Interrupt
             | Operation::Destroy
-            | Operation::BatchForget { .. } => (None, UNFIT),
+            | Operation::BatchForget { .. } => only(UNFIT),
         };
-        Ok(Script { change, ending })
+        Ok(script)
     }
 }

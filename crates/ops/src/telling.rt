@@ -1,7 +1,7 @@
 //! The results of scripts, from the answer to their last call.
 
 ghost use Rattle.std.specs.Prelude.{◌≡◌};
-ghost use Rattle.backing.specs.Calls.{AskRead, AskReadLink, AskRemove, AskWrite};
+ghost use Rattle.backing.specs.Calls.{AskList, AskRead, AskReadLink, AskRemove, AskStat, AskWrite};
 ghost use Rattle.ops.specs.Ahead.{end_of, told_of};
 ghost use Rattle.ops.specs.Judged.{judged};
 ghost use Rattle.ops.specs.Scripts.{if_found, if_listed, if_read, if_removed, if_written, is_hidden, open_end, shown_at, Over};
@@ -79,33 +79,35 @@ impl ReplyKind {
 }
 
 /// The result of a Stat of the path.
-pub(crate) fn looked(tells: ReplyKind, path: &Path, answer: &Answer) -> ScriptResult
-    ensures { Over (end_of result) ≡ if_found (λ found. Over (told_of tells path.now found)) answer.now }
+#[inline(never)]
+pub(crate) fn looked(tells: ReplyKind, path: &Path, answer: Answer) -> ScriptResult
+    ensures { Over (end_of result) ≡ if_found (λ found. Over (told_of tells path.now found)) (judged (AskStat path.now) answer) }
 {
-    match answer {
+    match judge(Call::Stat(path), answer) {
         Answer::Stat {
             kind,
             size,
             details,
-        } => {
-            let found = FoundFile {
-                kind: *kind,
-                size: *size,
-                details: *details,
-            };
-            tells.of(path, found)
-        }
+        } => tells.of(
+            path,
+            FoundFile {
+                kind,
+                size,
+                details,
+            },
+        ),
         other => ScriptResult::Error {
-            errno: errno_in(other),
+            errno: errno_in(&other),
         },
     }
 }
 
 /// The result of a List.
-pub(crate) fn listed(answer: Answer) -> ScriptResult
-    ensures { Over (end_of result) ≡ if_listed answer }
+#[inline(never)]
+pub(crate) fn listed(path: &Path, answer: Answer) -> ScriptResult
+    ensures { Over (end_of result) ≡ if_listed (judged (AskList path.now) answer) }
 {
-    match answer {
+    match judge(Call::List(path), answer) {
         Answer::Names(children) => ScriptResult::Listed(children),
         other => ScriptResult::Error {
             errno: errno_in(&other),
@@ -114,6 +116,7 @@ pub(crate) fn listed(answer: Answer) -> ScriptResult
 }
 
 /// The result of a Read.
+#[inline(never)]
 pub(crate) fn read(path: &Path, offset: u64, size: u32, answer: Answer) -> ScriptResult
     ensures { Over (end_of result) ≡ if_read (judged (AskRead path.now offset size) answer) }
 {
@@ -126,6 +129,7 @@ pub(crate) fn read(path: &Path, offset: u64, size: u32, answer: Answer) -> Scrip
 }
 
 /// The result of a ReadLink.
+#[inline(never)]
 pub(crate) fn read_link(path: &Path, answer: Answer) -> ScriptResult
     ensures { Over (end_of result) ≡ if_read (judged (AskReadLink path.now) answer) }
 {
@@ -138,6 +142,7 @@ pub(crate) fn read_link(path: &Path, answer: Answer) -> ScriptResult
 }
 
 /// The result of a Write.
+#[inline(never)]
 pub(crate) fn written(path: &Path, offset: u64, piece: &[u8], answer: Answer) -> ScriptResult
     ensures { Over (end_of result) ≡ if_written (judged (AskWrite path.now offset piece.now) answer) }
 {
@@ -155,6 +160,7 @@ pub(crate) fn written(path: &Path, offset: u64, piece: &[u8], answer: Answer) ->
 }
 
 /// The result of removing a file that was closed: success, and if it failed the file is kept.
+#[inline(never)]
 pub(crate) fn removed(path: &Path, answer: Answer) -> ScriptResult
     ensures { Over (end_of result) ≡ if_removed (judged (AskRemove path.now) answer) }
 {

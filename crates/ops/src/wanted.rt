@@ -79,6 +79,23 @@ impl<'a> Wanted<'a> {
             Wanted::Node { number, handle } => Ok(Want::Node { number, handle }),
             Wanted::Open { number, access } => Ok(Want::Open { number, access }),
             Wanted::Release { number, fh } => Ok(Want::Release { number, fh }),
+            Wanted::Create { .. }
+            | Wanted::Name { .. }
+            | Wanted::Link { .. }
+            | Wanted::Remove { .. }
+            | Wanted::Move { .. }
+            | Wanted::Exchange { .. } => self.own_names(alloc),
+        }
+    }
+
+    /// The same of a want with names.
+    #[inline(never)]
+    fn own_names(self, alloc: Global) -> Result<Want, AllocError>
+        requires { HasName self }
+        ensures { IfOk result (λ want. want ≡ want_of self.entry) }
+    {
+        match self {
+            Wanted::Node { .. } | Wanted::Open { .. } | Wanted::Release { .. } => unreachable!(),
             Wanted::Create {
                 parent,
                 name,

@@ -41,30 +41,31 @@ fn padding(len: usize) -> u8
     ((8 - len % 8) % 8) as u8
 }
 
-/// How many bytes the directory entry of this name has.
-fn dirent_len(name: &[u8]) -> usize
-    ensures is { result ≡ DIRENT_LEN + length name.now + padding_of name.now }
+/// How much room the directory entry of this name is written in: that of its bytes without padding, and a word.
+fn dirent_room(name: &[u8]) -> usize
+    ensures is { result ≡ DIRENT_LEN + length name.now + 8 }
     ensures short { result ≤ 2 ^ 63 + 32 }
 {
-    let len = DIRENT_LEN + name.len();
-    len + padding(len) as usize
+    DIRENT_LEN + name.len() + 8
 }
 
 /// Appends a name and its padding of zeros.
 #[tactic(auto, unfolding(crate::specs::Written::zeros))]
 fn put_padded(out: &mut Vec<u8>, name: &[u8], padding: u8)
     requires few { padding < 8 }
-    requires room { vec_len out.old + length name.now + padding ≤ vec_capacity out.old }
+    requires room { vec_len out.old + length name.now + 8 ≤ vec_capacity out.old }
     ensures { out.new.items ≡ out.old.items ++ (name.now ++ zeros padding) }
 {
     put(out, name);
-    let zeros = [0; 7];
-    put(out, &zeros[..padding as usize]);
+    let end = out.len() + padding as usize;
+    // A whole word is written at once, and what is too much of it is cut off.
+    put(out, &[0; 8]);
+    out.truncate(end);
 }
 
 #[tactic(auto, using(crate::proofs::Listed::dirents))]
 fn put_dirent(out: &mut Vec<u8>, ino: u64, next: u64, kind: Kind, name: &[u8])
-    requires { vec_len out.old + (DIRENT_LEN + length name.now + padding_of name.now) ≤ vec_capacity out.old }
+    requires { vec_len out.old + (DIRENT_LEN + length name.now + 8) ≤ vec_capacity out.old }
     ensures { out.new.items ≡ out.old.items ++ dirent_bytes (record { ino = ino; next = next; kind = kind; name = name.now }) }
 {
     let len = name.len();
@@ -86,7 +87,7 @@ pub fn encode_dirent(
     ensures dirent { let d : Dirent = record { ino = ino; next = next; kind = kind; name = name.now } in length name.now < 2 ^ 32 → IsDirent d (dirent_bytes d) }
     ensures err { OnErr result (out.new.items ≡ out.old.items) }
 {
-    out.reserve(dirent_len(name))?;
+    out.reserve(dirent_room(name))?;
     put_dirent(out, ino, next, kind, name);
     Ok(())
 }
@@ -117,7 +118,7 @@ fn given_words(entry: &Option<Entry>) -> [[u8; 8]; 16]
 /// Appends the node of a READDIRPLUS entry and then the directory entry with its name.
 #[tactic(auto, using(crate::proofs::Listed::dirents))]
 fn put_plus_dirent(out: &mut Vec<u8>, entry: &Option<Entry>, next: u64, kind: Kind, name: &[u8])
-    requires { vec_len out.old + (ENTRY_LEN + (DIRENT_LEN + length name.now + padding_of name.now)) ≤ vec_capacity out.old }
+    requires { vec_len out.old + (ENTRY_LEN + (DIRENT_LEN + length name.now + 8)) ≤ vec_capacity out.old }
     ensures items { out.new.items ≡ out.old.items ++ plus_bytes (record { entry = entry.now; next = next; kind = kind; name = name.now }) }
     ensures tells { CanTell entry_layout (given_values entry.now) }
 {
@@ -148,7 +149,7 @@ pub fn encode_plus_dirent(
     ensures dirent { OnOk result (let p : PlusDirent = record { entry = entry; next = next; kind = kind; name = name.now } in length name.now < 2 ^ 32 → IsPlusDirent p (plus_bytes p)) }
     ensures err { OnErr result (out.new.items ≡ out.old.items) }
 {
-    out.reserve(ENTRY_LEN + dirent_len(name))?;
+    out.reserve(ENTRY_LEN + dirent_room(name))?;
     put_plus_dirent(out, &entry, next, kind, name);
     Ok(())
 }

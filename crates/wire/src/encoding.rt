@@ -2,7 +2,7 @@
 //! writing that follows cannot fail.
 
 ghost use Rattle.std.specs.Prelude.{◌≡◌, ℕ, List, ◌≤◌, ◌+◌, ◌^◌, ◌++◌, ◌<◌, length, vec_len, vec_capacity, OnOk, OnErr, pos};
-ghost use Rattle.wire.specs.declared.reply.ReplyBody.TheVariants.{Failed, Done};
+ghost use Rattle.wire.specs.declared.reply.ReplyBody.TheVariants.{Data, Failed, Done};
 ghost use Rattle.wire.specs.Fields.{CanTell, IsBytes};
 ghost use Rattle.terms.specs.declared.settings.Names.{Names};
 ghost use Rattle.wire.specs.Requests.{IsRequest, opcode_of};
@@ -16,6 +16,7 @@ use crate::reply::{REPLY_HEADER_LEN, Reply, ReplyBody};
 use crate::request::{HEADER_LEN, Request};
 use crate::writing::{Row, put_parts, request_len, row_of};
 use byteorder::{ByteOrder, LittleEndian};
+use payload::Payload;
 use std::alloc::AllocError;
 
 #[tactic(auto, using(crate::proofs::Lengths::lengths), unfolding(crate::specs::Written::request_bytes))]
@@ -111,6 +112,33 @@ fn data_header(len: usize, unique: u64) -> [u8; 16]
     header
 }
 
+/// Writes a reply into the vector and replaces what was there.
+fn write_anew(reply: &Reply, out: &mut Vec<u8>) -> Result<(), AllocError>
+    ensures { OnOk result (out.new.items ≡ reply_bytes reply.now) }
+{
+    out.clear();
+    encode_reply(reply, out)
+}
+
+/// Writes a reply with data as `write_reply` does.
+#[inline(never)]
+#[tactic(auto, using(crate::proofs::Lengths::lengths), unfolding(crate::specs::Written::le, crate::specs::Written::body_bytes, crate::specs::Written::reply_bytes))]
+fn write_data(unique: u64, bytes: Payload, out: &mut Vec<u8>) -> Result<(), AllocError>
+    ensures { OnOk result (out.new.items ≡ reply_bytes (record { unique = unique; body = Data bytes })) }
+{
+    let len = REPLY_HEADER_LEN + bytes.as_slice().len();
+    match bytes.headed(&data_header(len, unique)) {
+        Ok(frame) => {
+            *out = frame;
+            Ok(())
+        }
+        Err(bytes) => {
+            let body = ReplyBody::Data(bytes);
+            write_anew(&Reply { unique, body }, out)
+        }
+    }
+}
+
 /// Writes a reply into the vector and replaces what was there. The data that it carries is not copied if the room
 /// before it is exactly as long as a header.
 #[tactic(auto, using(crate::proofs::Lengths::lengths), unfolding(crate::specs::Written::le, crate::specs::Written::body_bytes, crate::specs::Written::reply_bytes))]
@@ -118,21 +146,10 @@ pub fn write_reply(reply: Reply, out: &mut Vec<u8>) -> Result<(), AllocError>
     ensures { OnOk result (out.new.items ≡ reply_bytes reply) }
 {
     let Reply { unique, body } = reply;
-    let body = match body {
-        ReplyBody::Data(data) => {
-            let len = REPLY_HEADER_LEN + data.as_slice().len();
-            match data.headed(&data_header(len, unique)) {
-                Ok(frame) => {
-                    *out = frame;
-                    return Ok(());
-                }
-                Err(data) => ReplyBody::Data(data),
-            }
-        }
-        other => other,
-    };
-    out.clear();
-    encode_reply(&Reply { unique, body }, out)
+    match body {
+        ReplyBody::Data(data) => write_data(unique, data, out),
+        body => write_anew(&Reply { unique, body }, out),
+    }
 }
 
 /// A reply that has only an error number, or 0 for success without a body. It does not allocate. For an `errno` that is
