@@ -34,6 +34,7 @@ fn index_of(left: &[Path]) -> u8
 }
 
 /// The script of an UNLINK of the first path of its ticket.
+// In a caller its locals would be set up whichever way that one goes; so below.
 #[inline(never)]
 pub(crate) fn start_unlink(ticket: &Ticket) -> Script<'_>
     ensures { plan_ahead result ≡ at_candidates ticket.now.paths (λ p candidates. unlink ticket.now.hide p candidates) }

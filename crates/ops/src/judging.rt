@@ -71,6 +71,7 @@ pub fn errno_in(answer: &Answer) -> i32
 
 /// The answer after checking: one that does not fit its call becomes the fault EIO (own), and so does an error number
 /// outside 1 to 4,095. It does not allocate.
+// An answer is large, and is not moved through one more function where this is part of the caller.
 #[inline(always)]
 pub fn judge(call: Call<'_>, answer: Answer) -> Answer
     ensures { result ≡ judged (asked call.entry) answer }

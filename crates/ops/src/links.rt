@@ -82,6 +82,7 @@ pub(crate) fn hard_link_intent<'a>(number: u64, parent: u64, name: &'a [u8]) -> 
 }
 
 /// The script of a LINK, which gives what is at the first path of its ticket the second as a further name.
+// In a caller its locals would be set up whichever way that one goes.
 #[inline(never)]
 pub(crate) fn start_link(ticket: &Ticket) -> Script<'_>
     ensures { plan_ahead result ≡ at_paths ticket.now.paths (λ s t candidates. make (AskLink s t) (give_entry t)) }

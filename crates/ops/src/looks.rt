@@ -109,6 +109,7 @@ impl<'a> Looks<'a> {
     }
 
     /// Takes the answer to the next Stat. It does not allocate.
+    // In a caller its locals would be set up whichever way that one goes.
     #[inline(never)]
     pub fn feed(&mut self, answer: Answer)
         ensures { self.new ≡ looked_on self.old.left self.old.found answer }

@@ -99,6 +99,7 @@ impl<'a> Making<'a> {
     }
 
     /// What is left to do after the answer to the Stat.
+    // In a caller its locals would be set up whichever way that one goes; so below.
     #[inline(never)]
     pub fn on(self, answer: Answer) -> LastCall<'a>
         ensures plan { plan_ending result ≡ after (plan_making self.entry) answer }

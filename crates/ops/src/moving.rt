@@ -19,6 +19,7 @@ use payload::Kind;
 use table::Ticket;
 
 /// The script of a RENAME from the first path of its ticket to the second.
+// In a caller its locals would be set up whichever way that one goes; so below.
 #[inline(never)]
 pub(crate) fn start_rename(ticket: &Ticket) -> Script<'_>
     ensures { plan_ahead result ≡ at_paths ticket.now.paths (λ s t candidates. rename ticket.now.same ticket.now.hide s t candidates) }

@@ -93,6 +93,7 @@ pub(crate) const DONE: LastCall<'static> = LastCall::Over(ScriptResult::Nothing)
 pub(crate) const UNFIT: LastCall<'static> = LastCall::Over(ScriptResult::Error { errno: EIO });
 
 /// The error with which a script ends after the answer to its change, if it is one.
+// In a caller its locals would be set up whichever way that one goes.
 #[inline(never)]
 pub(crate) fn refused(call: Call<'_>, answer: Answer) -> Option<i32>
     ensures { (rest : Plan) → if_done rest (judged (asked call.entry) answer) ≡ unless result rest }

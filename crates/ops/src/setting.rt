@@ -136,6 +136,7 @@ impl<'a> Setting<'a> {
     }
 
     /// The next call.
+    // In a caller its locals would be set up whichever way that one goes; so below.
     #[inline(never)]
     pub fn next(self) -> Call<'a>
         ensures { next_of (plan_setting self.entry) ≡ Some (asked result) }

@@ -50,6 +50,7 @@ fn change(call: Call<'_>) -> Script<'_>
 }
 
 /// The script of a READDIRPLUS.
+// In a caller its locals would be set up whichever way that one goes; so below.
 #[inline(never)]
 fn start_looks(alloc: Global, ticket: &Ticket) -> Result<Script<'_>, AllocError>
     ensures { IfOk result (λ script. plan_ahead script ≡ at_names ticket.now.paths) }

@@ -79,6 +79,7 @@ impl ReplyKind {
 }
 
 /// The result of a Stat of the path.
+// In a caller its locals would be set up whichever way that one goes; so below.
 #[inline(never)]
 pub(crate) fn looked(tells: ReplyKind, path: &Path, answer: Answer) -> ScriptResult
     ensures { Over (end_of result) ≡ if_found (λ found. Over (told_of tells path.now found)) (judged (AskStat path.now) answer) }

@@ -89,6 +89,7 @@ impl<'a> Wanted<'a> {
     }
 
     /// The same of a want with names.
+    // In a caller its locals would be set up whichever way that one goes.
     #[inline(never)]
     fn own_names(self, alloc: Global) -> Result<Want, AllocError>
         requires { HasName self }

@@ -121,6 +121,7 @@ fn write_anew(reply: &Reply, out: &mut Vec<u8>) -> Result<(), AllocError>
 }
 
 /// Writes a reply with data as `write_reply` does.
+// In the caller its locals would be set up for replies without data too.
 #[inline(never)]
 #[tactic(auto, using(crate::proofs::Lengths::lengths), unfolding(crate::specs::Written::le, crate::specs::Written::body_bytes, crate::specs::Written::reply_bytes))]
 fn write_data(unique: u64, bytes: Payload, out: &mut Vec<u8>) -> Result<(), AllocError>
