@@ -1,7 +1,9 @@
 -- How a move ends that no look came before.
-use Rattle.std.proofs.Common.{Option, Result, Ok, Err, ◌≡◌, Some, None, sym, ap, ◌∙◌, subst, inl, inr}
+use Rattle.std.proofs.Common.{Option, Result, Ok, Err, ◌≡◌, Some, None, false, length, sym, ap, ◌∙◌, subst, arith, inl, inr}
+use Rattle.std.proofs.lemmas.Bool.{cases_Bool, true≢false}
 use Rattle.std.specs.Option.{option_map}
-use Rattle.paths.specs.Prefixes.{Names}
+use Rattle.paths.specs.Prefixes.{Names, is_prefix}
+use Rattle.paths.proofs.PrefixLemmas.{is_prefix-same, is_prefix-whole}
 use Rattle.backing.specs.declared.call.Answer.{Answer}
 use Rattle.backing.specs.declared.call.Answer.TheVariants.{Done}
 use Rattle.backing.specs.Tree.{Tree, IsTree, Resolves}
@@ -15,6 +17,13 @@ use Rattle.disk_folder.specs.Ends.{Ends, EndsOrStays, Before, After}
 use Rattle.disk_folder.specs.Moving.{IsLost, MovesOrStays}
 use Rattle.disk_folder.proofs.MoveEnds.{apart_low, moved_done}
 use Rattle.disk_folder.proofs.NewEnds.{new_done}
+
+-- of two paths as long as each other both lead to the other, or neither
+pub apart_long : (s t : Names) → length s ≡ length t → is_prefix s t ≡ false → is_prefix t s ≡ false
+apart_long s t long far = elim (cases_Bool (is_prefix t s)) [
+  | inl near ↦ absurd (true≢false (sym (is_prefix-same t) ∙ (ap (λ (q : Names). is_prefix q t) (is_prefix-whole t s near (omega (arith, long))) ∙ far)))
+  | inr far' ↦ far'
+]
 
 pub unseen_ends : {H : Type 0} (at at' : Tree) (olds news : H → Names → Type 0) (s t : Names) (result : Option (Result Answer Trouble)) → IsTree at → Resolves at t → AreApart s t → MovesOrStays at olds s t result at' news → EndsOrStays at (AskRename s t) result at'
 unseen_ends at at' olds news s t (Some (Ok answer)) tree down apart told =

@@ -99,6 +99,18 @@ parent_is up path above name whole long prefix =
     let two : take (length up) path ≡ up = ap (λ (q : Names). take (length up) q) it.1 ∙ (take-append-le (length up) up it.0 (omega arith) ∙ take_whole up) in
     ap (λ (q : Names). q ++ name ∷ []) (sym two ∙ one) ∙ sym whole
 
+-- what stands before the last name
+pub same_above : (above up : Names) (x last : Name) → above ++ x ∷ [] ≡ up ++ last ∷ [] → above ≡ up
+same_above [] [] x last e = refl
+same_above [] (b ∷ []) x last e = absurd (cc e)
+same_above [] (b ∷ c ∷ up) x last e = absurd (cc e)
+same_above (a ∷ []) [] x last e = absurd (cc e)
+same_above (a ∷ c ∷ above) [] x last e = absurd (cc e)
+same_above (a ∷ above) (b ∷ up) x last e =
+    let heads : a ≡ b = cc e in
+    let tails : above ++ x ∷ [] ≡ up ++ last ∷ [] = cc e in
+    ap (λ (q : Names). a ∷ q) (same_above above up x last tails) ∙ ap (λ (n : Name). n ∷ up) heads
+
 pub other_no_folder : (o : Option Item) → IsOther o → IsFolder o → ⊥
 other_no_folder None f g = f
 other_no_folder (Some Folder) f g = f

@@ -1,16 +1,16 @@
 //! A second way down, beside a folder that was come to: what is kept stays kept.
 
-ghost use Rattle.std.specs.Prelude.{◌≡◌, ◌++◌, ◌∷◌, [], IfOk, IfErr};
+ghost use Rattle.std.specs.Prelude.{◌≡◌, ◌++◌, ◌∷◌, [], IfOk, IfErr, IfSome};
 ghost use Rattle.paths.specs.Prefixes.{Name, Names};
 ghost use Rattle.backing.specs.Tree.{IsFolder, Resolves};
-ghost use Rattle.disk_folder.specs.Standing.{AllStand, IsEntryOf, IsFolderAt, IsHeld, IsHeldAt, KeepsAll, NoneKept, StandsIn};
+ghost use Rattle.disk_folder.specs.Standing.{AllStand, IsEntryOf, IsFolderAt, IsHeld, IsHeldAt, IsKeptEntry, KeepsAll, NoneKept, StandsIn};
 ghost use Rattle.disk_folder.specs.Troubles.{IsFailure};
 
 use crate::look::expect_lawful;
 use crate::open_cache::OpenCache;
-use crate::opened::{Entry, Held};
+use crate::opened::{Entry, Held, KeptEntry};
 use crate::trouble::{Trouble, as_failure};
-use crate::walk::open_folder;
+use crate::walk::{kept_entry, open_folder};
 use disk::Disk;
 use errno::EIO;
 use path_cache::Place;
@@ -96,6 +96,58 @@ pub fn go_beside<'a, D: Disk>(
                 Err(trouble) => Err(trouble),
             },
             Err(trouble) => Err(trouble),
+        },
+    }
+}
+
+/// The last name of the other path, if both are in one folder.
+fn name_beside<'a>(path: &Path, other: &'a Path) -> Option<&'a Name>
+    ensures { (up : Names) (last : Name) → path.now ≡ up ++ last ∷ [] → IfSome result (λ name. other.now ≡ up ++ name.now ∷ []) }
+{
+    match path.names().split_last() {
+        None => None,
+        Some((_, above)) => match other.names().split_last() {
+            None => None,
+            Some((name, above_too)) => { if above == above_too { Some(name) } else { None } }
+        },
+    }
+}
+
+/// The last name of the other path, beside an entry that is that of the path: the way to a folder that both are in is gone once.
+fn kept_beside<'a, H: Drop>(
+    cache: &OpenCache<H>,
+    entry: KeptEntry<'a>,
+    path: &Path,
+    other: &'a Path,
+) -> Option<KeptEntry<'a>>
+    requires { IsKeptEntry cache.now entry path.now }
+    ensures { IfSome result (λ found. IsKeptEntry cache.now found other.now) }
+{
+    match name_beside(path, other) {
+        None => kept_entry(cache, other),
+        Some(name) => match expect_lawful(name) {
+            Ok(()) => Some(KeptEntry {
+                folder: entry.folder,
+                name,
+            }),
+            Err(_) => None,
+        },
+    }
+}
+
+/// The last names of both paths, where all folders on the way to each are kept and used without a look: no call of the system.
+pub fn kept_both<'a, H: Drop>(
+    cache: &OpenCache<H>,
+    from: &'a Path,
+    to: &'a Path,
+) -> Option<(KeptEntry<'a>, KeptEntry<'a>)>
+    ensures { IfSome result (λ both. IsKeptEntry cache.now both.0 from.now × IsKeptEntry cache.now both.1 to.now) }
+{
+    match kept_entry(cache, from) {
+        None => None,
+        Some(source) => match kept_beside(cache, source, from, to) {
+            None => None,
+            Some(target) => Some((source, target)),
         },
     }
 }

@@ -54,3 +54,17 @@ pub fn note_move<D: Disk>(
         cache.hear_own(disk.moves());
     }
 }
+
+/// The same where nothing may be told.
+pub fn note_told<D: Disk>(
+    disk: &D,
+    cache: &mut OpenCache<D::Handle>,
+    kind: Kind,
+    moved: &Option<Result<Answer, Trouble>>,
+)
+    ensures { cache.new.cache ≡ cache.old.cache }
+{
+    if let Some(moved) = moved {
+        note_move(disk, cache, kind, moved);
+    }
+}

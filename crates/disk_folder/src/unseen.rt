@@ -11,27 +11,35 @@ ghost use Rattle.disk_folder.specs.Ends.{EndsOrStays};
 ghost use Rattle.disk_folder.specs.Moving.{IsLost, MovesOrStays};
 ghost use Rattle.disk_folder.specs.Standing.{AllStand, IsEntry, IsFolderAt, IsKeptEntry};
 
-use crate::following::follow;
+use crate::beside::kept_both;
+use crate::following::{follow, note_told};
+use crate::look::look_only;
 use crate::open_cache::OpenCache;
 use crate::opened::{Entry, Held, KeptEntry};
 use crate::renaming::{expect_target, go_both, see_target};
 use crate::trouble::Trouble;
-use crate::walk::kept_entry;
 use backing::Answer;
 use disk::{Disk, DiskError};
 use paths::Path;
 
-/// Whether no look at the source is needed: nothing is hidden from it, nobody else is to hear whether a folder moves, and both paths may be.
-fn needs_no_look<D: Disk>(disk: &D, from: &Path, to: &Path) -> bool
+/// Whether neither path leads to the other. Where both are as long that one comparison tells.
+fn are_apart(from: &Path, to: &Path) -> bool
     ensures { IsTrue result → AreApart from.now to.now }
 {
     if from.is_prefix_of(to) {
         return false;
     }
-    if to.is_prefix_of(from) {
-        return false;
+    if from.len() == to.len() {
+        return true;
     }
-    disk.shows_all() && !disk.is_shared()
+    !to.is_prefix_of(from)
+}
+
+/// Whether a call that succeeds says all that looks would show: nothing is hidden from it, and both paths may be.
+fn needs_no_look<D: Disk>(disk: &D, from: &Path, to: &Path) -> bool
+    ensures { IsTrue result → AreApart from.now to.now }
+{
+    disk.shows_all() && are_apart(from, to)
 }
 
 /// The failure of a call that may have been done. Any other error says why nothing was changed.
@@ -49,7 +57,7 @@ fn lost(error: DiskError) -> Option<Trouble>
 }
 
 /// Renames from an open folder to an open folder. Where the system failed, all is closed.
-fn move_in<D: Disk>(
+fn move_unheard<D: Disk>(
     disk: &mut D,
     cache: &mut OpenCache<D::Handle>,
     source: &Entry<'_, D::Handle>,
@@ -78,6 +86,32 @@ fn move_in<D: Disk>(
             }
             None => None,
         },
+    }
+}
+
+/// The same, and others who serve the folder hear where a folder is moved: where there are any, one look at the source tells.
+fn move_in<D: Disk>(
+    disk: &mut D,
+    cache: &mut OpenCache<D::Handle>,
+    source: &Entry<'_, D::Handle>,
+    target: &Entry<'_, D::Handle>,
+) -> Option<Result<Answer, Trouble>>
+    requires source { IsEntry cache.old source.now }
+    requires target { IsEntry cache.old target.now }
+    ensures suits { IfSome result (λ ended. IfOk ended (λ answer. answer ≡ Done)) }
+    ensures moves { (up up' : Names) → IsFolderAt (D.tree disk.old) (D.stands disk.old) cache.old source.now.folder up → IsFolderAt (D.tree disk.old) (D.stands disk.old) cache.old target.now.folder up' → AreApart (up ++ source.now.name.now ∷ []) (up' ++ target.now.name.now ∷ []) → MovesOrStays (D.tree disk.old) (D.stands disk.old) (up ++ source.now.name.now ∷ []) (up' ++ target.now.name.now ∷ []) result (D.tree disk.new) (D.stands disk.new) }
+    ensures stand { (up up' : Names) → IsFolderAt (D.tree disk.old) (D.stands disk.old) cache.old source.now.folder up → IsFolderAt (D.tree disk.old) (D.stands disk.old) cache.old target.now.folder up' → AreApart (up ++ source.now.name.now ∷ []) (up' ++ target.now.name.now ∷ []) → AllStand (D.tree disk.new) (D.stands disk.new) cache.new }
+{
+    if !disk.is_shared() {
+        return move_unheard(disk, cache, source, target);
+    }
+    match look_only(disk, cache, source) {
+        Ok(seen) => {
+            let moved = move_unheard(disk, cache, source, target);
+            note_told(disk, cache, seen.kind, &moved);
+            moved
+        }
+        Err(_) => None,
     }
 }
 
@@ -141,7 +175,7 @@ fn move_kept<D: Disk>(
     move_in(disk, cache, &source, &target)
 }
 
-/// Gives what stands at the one path the other one, where no look at either is needed: one call.
+/// Gives what stands at the one path the other one, where no look has to say what hinders it: one call.
 pub fn rename_unseen<D: Disk>(
     disk: &mut D,
     cache: &mut OpenCache<D::Handle>,
@@ -155,12 +189,9 @@ pub fn rename_unseen<D: Disk>(
     if !needs_no_look(disk, from, to) {
         return None;
     }
-    match kept_entry(cache, from) {
+    match kept_both(cache, from, to) {
         None => move_behind(disk, cache, from, to),
-        Some(source) => match kept_entry(cache, to) {
-            None => move_behind(disk, cache, from, to),
-            Some(target) => move_kept(disk, cache, source, target),
-        },
+        Some((source, target)) => move_kept(disk, cache, source, target),
     }
 }
 

@@ -2,16 +2,11 @@
 
 ghost use Rattle.std.specs.Prelude.{◌≡◌};
 
-use smallvec::SmallVec;
-
-/// The maximum length of a reply without data: the reply to a CREATE is the longest.
-pub const SHORT_REPLY: usize = 160;
-
-/// The bytes of a reply. Only a reply with data needs an allocation.
+/// The bytes of a reply. One that is only a header needs no memory of its own.
 #[derive(Drop)]
 pub enum ReplyBytes {
     Header([u8; 16]),
-    Whole(SmallVec<u8, SHORT_REPLY>),
+    Whole(Vec<u8>),
 }
 
 impl ReplyBytes {

@@ -21,7 +21,7 @@ mod served;
 mod serving;
 mod using;
 
-pub use bytes::{ReplyBytes, SHORT_REPLY};
+pub use bytes::ReplyBytes;
 pub use classes::{Class, ClassedFrame, class_of};
 pub use concluding::give_up;
 pub use ends::SessionEnd;

@@ -9,7 +9,7 @@ use crate::waiting::wait_if_returned;
 use crate::worker_role::WorkerRole;
 use backing::Calls;
 use engine::{LinkIn, LinkOut, Served};
-use engine_turns::{ReaderRole, Sink, Source, TableHandle, Turn, WriterRole};
+use engine_turns::{ReaderRole, Sink, Source, SpareBuffers, TableHandle, Turn, WriterRole};
 use handles::Dirs;
 use ledger::Ledgers;
 use std::sync::Wait;
@@ -94,15 +94,16 @@ pub fn work_alone<
         calls,
         workers: _,
     } = role;
+    let mut spares = SpareBuffers::new(worker.session.alloc);
     let mut served = Served { calls, dirs: &dirs };
     let mut table_handle = TableHandle::new(rt, &shared_table, thread_log);
     for _ in rt.forever() {
-        offer_queued(rt, &shared_table, &dirs, &mut writer);
+        offer_queued(rt, &shared_table, &dirs, &mut writer, &mut spares);
         match worker.turn(&mut table_handle, &mut kept.share, &mut served) {
             Turn::Worked(_settled) => wait_if_returned(rt, &worker),
             Turn::Nothing => {
                 if reader.end.is_none() && !writer.writer.is_broken {
-                    reader.turn(rt);
+                    reader.turn(rt, &mut spares);
                 } else if are_all_taken(reader.reader.next, others, worker.taken) {
                     let Served { calls, dirs: _ } = served;
                     let role = WorkerRole::again(worker, kept, table_handle.into_log(), calls);

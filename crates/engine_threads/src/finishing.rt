@@ -19,7 +19,7 @@ use crate::worker_end::WorkerEnd;
 use crate::worker_role::WorkerRole;
 use backing::Calls;
 use engine::{LinkIn, LinkOut};
-use engine_turns::{ReaderRole, Shares, Sink, Source, WriterEnd, WriterRole};
+use engine_turns::{ReaderRole, Shares, Sink, Source, SpareBuffers, WriterEnd, WriterRole};
 use handles::Dirs;
 use ledger::Ledgers;
 use std::alloc::Global;
@@ -118,10 +118,12 @@ fn offer_all<H: Wait, T: Ledgers, N: Opening, O: LinkOut + Drop, S: Sink<O>>(
     dirs: &Dirs,
     writer: WriterRole<T, N, O, S>,
     put: Option<u64>,
+    spares: SpareBuffers,
 ) -> WriterRole<T, N, O, S> {
     let mut writer = writer;
+    let mut spares = spares;
     for _ in rt.forever() {
-        offer_queued(rt, shared_table, dirs, &mut writer);
+        offer_queued(rt, shared_table, dirs, &mut writer, &mut spares);
         if put == Some(writer.writer.got) {
             return writer;
         }
@@ -182,10 +184,11 @@ pub fn end_all<
         reader,
         writer,
     } = alone;
+    let spares = SpareBuffers::new(last.worker.session.alloc);
     let others = end_others(rt, &shared_table, &dirs, roles, ends);
     let last = last.into_end(rt, &shared_table, &dirs, &reader.reader.last_job);
     let put = put_of(others.as_slice(), &last);
-    let writer = offer_all(rt, &shared_table, &dirs, writer, put);
+    let writer = offer_all(rt, &shared_table, &dirs, writer, put, spares);
     Ends {
         shared_table,
         reader,

@@ -9,7 +9,9 @@ use crate::session_state::Common;
 use crate::waiting::wait_if_returned;
 use backing::Calls;
 use engine::{LinkIn, LinkOut, Served};
-use engine_turns::{BATCH, Sink, Source, TableHandle, ThreadShare, Turn, Worker, WriterRole};
+use engine_turns::{
+    BATCH, Sink, Source, SpareBuffers, TableHandle, ThreadShare, Turn, Worker, WriterRole,
+};
 use handles::Dirs;
 use ledger::Ledgers;
 use std::sync::atomic::Ordering;
@@ -47,11 +49,12 @@ pub fn offer_queued<H: Wait, T: Ledgers, N: Opening, O: LinkOut + Drop, S: Sink<
     shared_table: &SharedTable<T, N>,
     dirs: &Dirs,
     writer: &mut WriterRole<T, N, O, S>,
+    spares: &mut SpareBuffers,
 ) -> bool {
     let mut dirs = dirs;
     let mut is_any = false;
     for _ in rt.forever() {
-        let count = writer.turn(rt, shared_table, &mut dirs);
+        let count = writer.turn(rt, shared_table, &mut dirs, spares);
         is_any = is_any || count > 0;
         if count < BATCH {
             break;
@@ -70,7 +73,7 @@ fn offer<
     I: LinkIn + Drop,
     O: LinkOut + Drop,
     S: Source<I> + Sink<O>,
->(common: &Common<H, T, N, I, O, S>, left: &mut usize) -> bool {
+>(common: &Common<H, T, N, I, O, S>, spares: &mut SpareBuffers, left: &mut usize) -> bool {
     let signs = &common.signs;
     let has_to = *left >= JOINED;
     if !has_to && !signs.is_ready.load(Ordering::SeqCst) {
@@ -82,7 +85,13 @@ fn offer<
     };
     // This comes before the queue is read: whatever is put later sets the flag again.
     signs.is_ready.store(false, Ordering::SeqCst);
-    let is_any = offer_queued(&common.rt, &common.shared_table, &common.dirs, &mut *writer);
+    let is_any = offer_queued(
+        &common.rt,
+        &common.shared_table,
+        &common.dirs,
+        &mut *writer,
+        spares,
+    );
     if writer.writer.is_broken {
         signs.is_broken.store(true, Ordering::SeqCst);
     }
@@ -91,14 +100,14 @@ fn offer<
 }
 
 /// Makes one receive, unless another thread does, and wakes others for what came. Returns whether it was made.
-pub fn read<
+fn read<
     H: Wait + Drop,
     T: Ledgers,
     N: Opening,
     I: LinkIn + Drop,
     O: LinkOut + Drop,
     S: Source<I> + Sink<O>,
->(common: &Common<H, T, N, I, O, S>, number: usize) -> bool {
+>(common: &Common<H, T, N, I, O, S>, number: usize, spares: &mut SpareBuffers) -> bool {
     // This is asked first, since trying the lock again and again would slow down the thread that has it.
     if common.signs.is_over() || common.signs.is_reading.load(Ordering::SeqCst) {
         return false;
@@ -114,7 +123,7 @@ pub fn read<
     // receive.
     let is_broken = common.signs.is_broken.load(Ordering::SeqCst);
     if !is_broken {
-        reader.turn(&common.rt);
+        reader.turn(&common.rt, spares);
     }
     let queued = reader.reader.next.saturating_sub(before);
     let was_waiting = reader.link.was_waiting();
@@ -155,8 +164,8 @@ fn tell_read<
     }
 }
 
-/// Offers what is ready, and works on some of the queued jobs. Returns whether there was something to do. `left` is how
-/// many jobs this thread has worked on since it had the writer.
+/// Offers what is ready, and works on some of the queued jobs, or, where nothing was ready or queued, makes one receive. Returns whether
+/// there was something to do. `left` is how many jobs this thread has worked on since it had the writer.
 pub fn take_turns<
     'a,
     H: Wait + Drop,
@@ -180,7 +189,7 @@ pub fn take_turns<
     ensures none_back { worker.new.handed_back ≡ 0 }
     ensures worked { WorksOn (does_shared C.gives) worker.old.session.settings worker.old.number (stand_of worker.old served.old.calls kept.old.share (on_table_of table_handle.old.thread_log)) (stand_of worker.new served.new.calls kept.new.share (on_table_of table_handle.new.thread_log)) }
 {
-    let mut is_busy = offer(common, left);
+    let mut is_busy = offer(common, &mut worker.spare_replies, left);
     for _ in *left..JOINED {
         match worker.turn(table_handle, &mut kept.share, served) {
             Turn::Worked(_settled) => {
@@ -192,5 +201,5 @@ pub fn take_turns<
             Turn::Nothing => break,
         }
     }
-    is_busy
+    is_busy || read(common, worker.number as usize, &mut worker.spare_frames)
 }

@@ -5,7 +5,7 @@ ghost use Rattle.std.specs.Prelude.{◌≡◌};
 use crate::origins::Workers;
 use crate::resting::Rest;
 use crate::session_state::Common;
-use crate::turns::{read, take_turns};
+use crate::turns::take_turns;
 use crate::worker_role::WorkerRole;
 use backing::Calls;
 use engine::{LinkIn, LinkOut, Served};
@@ -48,8 +48,7 @@ pub fn work<
             &mut kept,
             &mut served,
             &mut left,
-        ) || read(common, number)
-        {
+        ) {
             rest.rise(common);
         } else if is_over {
             let Served { calls, dirs: _ } = served;

@@ -41,6 +41,7 @@ use Rattle.engine_queues.specs.contracts.replies.QueuedReply as QueuedReply
 use Rattle.engine_queues.specs.contracts.replies.ReplyLane as ReplyLane
 use Rattle.engine.proofs.bytes.ReplyBytes.TheSendSync as bytes
 use Rattle.engine_turns.proofs.batches.Batch.TheSendSync as batch
+use Rattle.engine_turns.proofs.spare_buffers.SpareBuffers.TheSendSync as spares
 use Rattle.engine_turns.specs.contracts.replies.JobReply as JobReply
 use Rattle.engine_turns.specs.contracts.working.Worker as Worker
 use Rattle.engine_turns.specs.contracts.writing.Writer as Writer
@@ -112,6 +113,7 @@ mail_send = queued_reply.the_send JobReply.the_row reply_send
 pub worker_send : IsSend (Worker.the_field).row
 worker_send =
     let a = session.the_field_send in
+    let f = spares.the_field_send in
     let b = receiver_send Job.the_row (Hand.the_row Job.the_row) Fair.the_row (fair.ghosts Job.the_row) job.the_send in
     let c = pass_send Job.the_row (Hand.the_row Job.the_row) Fair.the_row (fair.ghosts Job.the_row) in
     let d = sender_send mail (ReplyLane.the_row JobReply.the_row) InOrder.the_row (in_order.ghosts JobReply.the_row) mail_send in

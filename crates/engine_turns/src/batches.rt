@@ -9,6 +9,7 @@ ghost use Rattle.engine_turns.specs.Turns.{ByBoth};
 
 use crate::replies::JobReply;
 use crate::settling::settle_left;
+use crate::spare_buffers::SpareBuffers;
 use crate::table_lock::TableLock;
 use engine::{LinkOut, ReplyBytes, Sent};
 use engine_queues::Left;
@@ -71,6 +72,18 @@ fn is_last_broken(sent: &[Sent]) -> bool
     }
 }
 
+/// Removes these replies, and gives back their buffers.
+fn give_back(replies: &mut Vec<ReplyBytes>, spares: &mut SpareBuffers)
+    ensures { vec_capacity replies.new ≡ vec_capacity replies.old }
+{
+    while let Some(reply) = replies.pop() {
+        match reply {
+            ReplyBytes::Header(_) => {}
+            ReplyBytes::Whole(buffer) => spares.give(buffer),
+        }
+    }
+}
+
 impl Batch {
     /// An empty batch, with room for all its replies.
     pub(crate) fn new(alloc: Global) -> Result<Batch, AllocError> {
@@ -109,8 +122,13 @@ impl Batch {
     }
 
     /// Offers the replies, unless the link is broken already. Returns whether it is broken afterwards. The bytes are
-    /// dropped.
-    pub(crate) fn offer<L: LinkOut>(&mut self, link: &mut L, was_broken: bool) -> bool
+    /// dropped, and their buffers are spare.
+    pub(crate) fn offer<L: LinkOut>(
+        &mut self,
+        link: &mut L,
+        was_broken: bool,
+        spares: &mut SpareBuffers,
+    ) -> bool
         requires few { vec_len self.old.bytes ≤ 16 }
         ensures offers { OffersAll L.sends link.old (map bytes_of self.old.bytes.items) was_broken self.new.sent.items link.new result }
         ensures left { self.new.left ≡ self.old.left }
@@ -120,7 +138,7 @@ impl Batch {
             return true;
         }
         link.send_all(self.bytes.as_slice(), &mut self.sent);
-        self.bytes.clear();
+        give_back(&mut self.bytes, spares);
         is_last_broken(self.sent.as_slice())
     }
 

@@ -37,6 +37,17 @@ impl Job {
         }
     }
 
+    /// The memory of its frame, for another.
+    pub(crate) fn into_buffer(self) -> Vec<u8> {
+        let Job {
+            ordinal: _,
+            agreed: _,
+            class: _,
+            frame,
+        } = self;
+        frame
+    }
+
     /// Its frame, and how it is handled.
     pub(crate) fn classed_frame(&self) -> ClassedFrame<'_>
         ensures class { result.class ≡ classes.class self.now.agreed (opcode_in self.now.frame.items) }

@@ -8,6 +8,7 @@ ghost use Rattle.engine_turns.specs.Turns.{MeetsJob, means};
 
 use crate::job::Job;
 use crate::reply_buffer::ReplyBuffer;
+use crate::spare_buffers::SpareBuffers;
 use crate::table_handle::{TableHandle, TurnResult};
 use backing::Calls;
 use engine::{ReplyBytes, Served, Session};
@@ -19,6 +20,7 @@ use table_shared::Opening;
 /// Handles a job by the rules of a session. Returns the reply, and what happened in the table.
 pub(crate) fn meet_job<'a, H: Wait, T: Ledgers, O: Opening, C: Calls, D: Folders>(
     session: &mut Session,
+    spares: &mut SpareBuffers,
     table_handle: &mut TableHandle<'a, H, T, O>,
     share: &mut Share<T>,
     served: &mut Served<C, D>,
@@ -28,7 +30,7 @@ pub(crate) fn meet_job<'a, H: Wait, T: Ledgers, O: Opening, C: Calls, D: Folders
     ensures settings { session.new.settings ≡ session.old.settings }
 {
     session.agreed = job.agreed;
-    let mut reply_buffer = ReplyBuffer::new(session.alloc);
+    let mut reply_buffer = ReplyBuffer::new(session.alloc, spares.take());
     let _ = table_handle.take_end();
     session.handle_frame(
         table_handle.table_lock.rt,
@@ -38,5 +40,7 @@ pub(crate) fn meet_job<'a, H: Wait, T: Ledgers, O: Opening, C: Calls, D: Folders
         share,
         job.classed_frame(),
     );
-    (reply_buffer.into_said(), table_handle.take_end())
+    let (said, spare) = reply_buffer.into_parts();
+    spares.give(spare);
+    (said, table_handle.take_end())
 }

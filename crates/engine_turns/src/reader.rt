@@ -1,19 +1,21 @@
 //! Cutting frames from a link and queueing a job for each.
 
-ghost use Rattle.std.specs.Prelude.{◌≡◌, ◌<◌, ◌≤◌, ◌+◌, ◌-◌, ◌++◌, ◌∷◌, [], false, drop, length, map, take, vec_len, IfOk, IsTrue, IsFalse, None, Some};
+ghost use Rattle.std.specs.Prelude.{◌≡◌, ◌<◌, ◌≤◌, ◌+◌, ◌-◌, ◌++◌, ◌∷◌, ◌↔◌, ℕ, [], false, drop, length, map, take, vec_len, IfOk, IfSome, IfNone, IsTrue, IsFalse, None, Some, Err};
 ghost use Rattle.crossbeam_channel.specs.Claims.{view, IsSeatAt};
 ghost use Rattle.crossbeam_channel.specs.Ends.{sends_on};
 ghost use Rattle.engine.specs.Links.{heard, IsWithin};
 ghost use Rattle.engine_queues.specs.Jobs.{numbers};
-ghost use Rattle.wire.specs.Stream.{StoppedBy};
+ghost use Rattle.wire.specs.NextFrame.{IsWhole};
+ghost use Rattle.wire.specs.Stream.{BeginsBadly, HandsOut, IsPartial, StoppedBy};
 ghost use Rattle.engine_turns.specs.declared.reader.TheConstants.{GAP, READ_AT_ONCE};
 
 use crate::job::Job;
+use crate::spare_buffers::SpareBuffers;
 use engine::{LinkIn, Received, SessionEnd};
 use engine_queues::jobs::{JobPass, JobSender, Puts};
 use std::alloc::{AllocError, Global};
 use std::sync::Wait;
-use wire::{CutFault, Cutter, MAX_FRAME_LEN};
+use wire::{CutFault, Cutter, Frame, MAX_FRAME_LEN};
 
 /// How many bytes a receive may bring: more than the longest frame has.
 pub const READ_AT_ONCE: usize = 131_072;
@@ -56,6 +58,21 @@ fn receive_between<L: LinkIn>(link: &mut L, room: &mut [u8], from: usize, to: us
     ensures len { length room.new ≡ length room.old }
 {
     link.receive(&mut room[from..to])
+}
+
+/// The next whole frame, if there is one, in a spare buffer.
+fn next_frame(cutter: &mut Cutter, spares: &mut SpareBuffers) -> Result<Option<Frame>, CutFault>
+    ensures frame { IfOk result (λ o. IfSome o (λ f. HandsOut cutter.old f.items cutter.new)) }
+    ensures none { IfOk result (λ o. IfNone o (IsPartial cutter.old.kept × (cutter.new ≡ cutter.old))) }
+    ensures bad { (len : ℕ) → (result ≡ Err (CutFault.BadLength len)) ↔ BeginsBadly cutter.old.kept len }
+    ensures for_good { (len : ℕ) → result ≡ Err (CutFault.BadLength len) → cutter.new ≡ record cutter.old { stopped = Some len } }
+    ensures memory { result ≡ Err CutFault.Memory → cutter.new ≡ cutter.old }
+    ensures asked { result ≡ Err CutFault.Memory → (len : ℕ) × IsWhole cutter.old.kept len }
+{
+    let mut buffer = spares.take();
+    let frame = cutter.next_in(&mut buffer);
+    spares.give(buffer);
+    frame
 }
 
 impl Reader {
@@ -120,13 +137,13 @@ impl Reader {
 
     /// Queues a job for each whole frame before the one that ends the session. If the queue returns one, the session
     /// cannot go on.
-    fn queue_all<H: Wait>(&mut self, rt: &H) -> Option<SessionEnd>
+    fn queue_all<H: Wait>(&mut self, rt: &H, spares: &mut SpareBuffers) -> Option<SessionEnd>
         ensures all { QueuesAll (progress self.old) result (progress self.new) }
         ensures queue { sends_on self.new.to ≡ sends_on self.old.to }
         ensures parts { (view self.new.pass).parts ≡ (view self.old.pass).parts }
     {
         loop {
-            match self.cutter.next() {
+            match next_frame(&mut self.cutter, spares) {
                 Ok(None) => return None,
                 Ok(Some(frame)) => {
                     let job = Job::new(self.next, self.agreed, frame);
@@ -148,8 +165,13 @@ impl Reader {
 
     /// Makes one receive, and queues a job for each frame that is then whole. The bytes stay where they were received,
     /// and those that were kept before are copied in front of them if they are fewer. What cannot be kept stays in the
-    /// buffer, and the next turn that can keep it does so, if there is one.
-    pub fn turn<H: Wait, L: LinkIn>(&mut self, rt: &H, link: &mut L) -> Option<SessionEnd>
+    /// buffer, and the next turn that can keep it does so, if there is one. The frames are copied into spare buffers.
+    pub fn turn<H: Wait, L: LinkIn>(
+        &mut self,
+        rt: &H,
+        link: &mut L,
+        spares: &mut SpareBuffers,
+    ) -> Option<SessionEnd>
         ensures reads { Reads L.receives (reading link.old self.old) result (reading link.new self.new) }
         ensures queue { sends_on self.new.to ≡ sends_on self.old.to }
         ensures parts { (view self.new.pass).parts ≡ (view self.old.pass).parts }
@@ -167,7 +189,7 @@ impl Reader {
         match self.cutter.feed_from(&mut self.room, GAP, self.unkept) {
             Ok(()) => {
                 self.unkept = 0;
-                self.queue_all(rt)
+                self.queue_all(rt, spares)
             }
             Err(CutFault::BadLength { len }) => Some(SessionEnd::BadLength { len }),
             Err(CutFault::Memory) => Some(SessionEnd::Memory),

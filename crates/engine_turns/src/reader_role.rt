@@ -12,6 +12,7 @@ ghost use Rattle.engine_turns.specs.Reads.{beginning, HasRead, HasReadAll};
 use crate::origins::Source;
 use crate::reader::Reader;
 use crate::reading::ReaderEnd;
+use crate::spare_buffers::SpareBuffers;
 use crate::waiting::wait_unless;
 use engine::{LinkIn, SessionEnd};
 use std::marker::PhantomData;
@@ -60,14 +61,14 @@ impl<I: LinkIn + Drop, S: Source<I>> ReaderRole<I, S> {
     /// Makes one receive, and queues a job for each frame that is then whole. After the session has ended it does
     /// nothing. If the queue returned a job, this would wait forever: the queue has a receiver as long as there is a
     /// worker.
-    pub fn turn<H: Wait>(&mut self, rt: &H)
+    pub fn turn<H: Wait>(&mut self, rt: &H, spares: &mut SpareBuffers)
         ensures over { IfSome self.old.end (λ _. self.new ≡ self.old) }
         ensures reads { IfNone self.old.end (Reads I.receives (reading self.old.link self.old.reader) self.new.end (reading self.new.link self.new.reader)) }
     {
         match self.end {
             Some(_) => {}
             None => {
-                let end = self.reader.turn(rt, &mut self.link);
+                let end = self.reader.turn(rt, &mut self.link, spares);
                 wait_if_returned(rt, &self.reader);
                 self.end = end;
             }

@@ -3,45 +3,40 @@
 ghost use Rattle.std.specs.Prelude.{◌≡◌, None, Some};
 ghost use Rattle.engine.specs.declared.links.Sent.TheVariants.{Taken};
 
-use engine::{Outlet, ReplyBytes, SHORT_REPLY, Sent};
-use smallvec::SmallVec;
+use engine::{Outlet, ReplyBytes, Sent};
 use std::alloc::Global;
 use std::mem;
 
-/// The bytes in the buffer. If they are short, they are copied and the buffer keeps its memory for the next reply;
-/// otherwise its memory is taken over.
-fn taken(alloc: Global, frame: &mut Vec<u8>) -> SmallVec<u8, SHORT_REPLY>
-    ensures { result.items ≡ frame.old.items }
-{
-    if frame.len() > SHORT_REPLY {
-        return SmallVec::from_vec(mem::replace(frame, Vec::new(alloc)));
-    }
-    match SmallVec::from_slice(alloc, frame.as_slice()) {
-        Ok(bytes) => bytes,
-        Err(_) => unreachable!(),
-    }
-}
-
-/// A buffer for the reply to one job.
+/// A place for the reply to one job.
 #[derive(Drop)]
 pub struct ReplyBuffer {
     alloc: Global,
+    /// The buffer that takes the place of one that is taken over.
+    spare: Vec<u8>,
     pub said: Option<ReplyBytes>,
 }
 
 impl ReplyBuffer {
-    pub fn new(alloc: Global) -> ReplyBuffer
+    pub fn new(alloc: Global, spare: Vec<u8>) -> ReplyBuffer
         ensures { result.said ≡ None }
     {
-        ReplyBuffer { alloc, said: None }
+        ReplyBuffer {
+            alloc,
+            spare,
+            said: None,
+        }
     }
 
-    /// What was written into it, if anything.
-    pub fn into_said(self) -> Option<ReplyBytes>
-        ensures { result ≡ self.said }
+    /// What was written into it, if anything, and the buffer that took no other's place.
+    pub fn into_parts(self) -> (Option<ReplyBytes>, Vec<u8>)
+        ensures { result.0 ≡ self.said }
     {
-        let ReplyBuffer { alloc: _, said } = self;
-        said
+        let ReplyBuffer {
+            alloc: _,
+            spare,
+            said,
+        } = self;
+        (said, spare)
     }
 }
 
@@ -56,8 +51,8 @@ impl Outlet for ReplyBuffer {
     }
 
     fn buffered(&mut self, frame: &mut Vec<u8>) -> Sent {
-        let bytes = taken(self.alloc, frame);
-        self.said = Some(ReplyBytes::Whole(bytes));
+        let spare = mem::replace(&mut self.spare, Vec::new(self.alloc));
+        self.said = Some(ReplyBytes::Whole(mem::replace(frame, spare)));
         Sent::Taken
     }
 }

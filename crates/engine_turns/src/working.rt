@@ -15,6 +15,7 @@ use crate::job::Job;
 use crate::meeting::meet_job;
 use crate::replies::JobReply;
 use crate::settling::settle_left;
+use crate::spare_buffers::SpareBuffers;
 use crate::table_handle::{TableHandle, TurnResult};
 use backing::Calls;
 use engine::{ReplyBytes, Served, Session, Settings};
@@ -42,6 +43,10 @@ pub enum Turn {
 pub struct Worker {
     pub number: u64,
     pub session: Session,
+    /// Buffers for the frames that its thread reads.
+    pub spare_frames: SpareBuffers,
+    /// Buffers for replies. They stay apart, since those of READ are long.
+    pub spare_replies: SpareBuffers,
     pub jobs: JobReceiver<Job>,
     pub job_pass: JobPass<Job>,
     pub replies: ReplySender<JobReply>,
@@ -89,6 +94,8 @@ impl Worker {
         Worker {
             number,
             session,
+            spare_frames: SpareBuffers::new(alloc),
+            spare_replies: SpareBuffers::new(alloc),
             jobs,
             job_pass,
             replies,
@@ -108,6 +115,8 @@ impl Worker {
         let Worker {
             number,
             session: _,
+            spare_frames: _,
+            spare_replies: _,
             jobs,
             job_pass,
             replies,
@@ -194,7 +203,14 @@ impl Worker {
             (standing (view self.new.job_pass) (outbox (view self.new.reply_pass) self.new.handed_back) (means served.new share.new (on_table_of table_handle.new.thread_log))) }
         ensures settings { self.new.session.settings ≡ self.old.session.settings }
     {
-        let (said, turn_result) = meet_job(&mut self.session, table_handle, share, served, job);
+        let (said, turn_result) = meet_job(
+            &mut self.session,
+            &mut self.spare_replies,
+            table_handle,
+            share,
+            served,
+            job,
+        );
         self.put(
             table_handle,
             share,
@@ -251,7 +267,9 @@ impl Worker {
         {
             Ok(job) => {
                 self.taken = after;
-                Turn::Worked(self.meet(table_handle, share, served, &job))
+                let settled = self.meet(table_handle, share, served, &job);
+                self.spare_frames.give(job.into_buffer());
+                Turn::Worked(settled)
             }
             Err(_) => Turn::Nothing,
         }

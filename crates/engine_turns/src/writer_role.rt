@@ -11,6 +11,7 @@ ghost use Rattle.engine_turns.specs.Writes.{none_got, writing, HasWritten};
 use crate::origins::Sink;
 use crate::replies::JobReply;
 use crate::shares::ThreadShare;
+use crate::spare_buffers::SpareBuffers;
 use crate::table_lock::TableLock;
 use crate::writing::Writer;
 use engine::LinkOut;
@@ -76,12 +77,13 @@ impl<T: Ledgers, N: Opening, O: LinkOut + Drop, S: Sink<O>> WriterRole<T, N, O, 
     }
 
     /// Takes what is queued, at most 16 replies, offers them together, and settles the answer of each according to what
-    /// became of it. It does not wait for replies, and returns how many there were.
+    /// became of it. It does not wait for replies, and returns how many there were. Their buffers are spare then.
     pub fn turn<H: Wait, D: Folders>(
         &mut self,
         rt: &H,
         shared_table: &SharedTable<T, N>,
         dirs: &mut D,
+        spares: &mut SpareBuffers,
     ) -> usize
         ensures wrote { ByBoth D.keeps dirs.old (on_table_of self.old.thread_log) dirs.new (on_table_of self.new.thread_log) (λ folders calls. WritesAll O.sends (writing (view self.old.writer.pass) self.old.link self.old.writer.is_broken) (endings self.new.writer.batch.settled.items folders calls)
             (writing (view self.new.writer.pass) self.new.link self.new.writer.is_broken)) }
@@ -95,6 +97,7 @@ impl<T: Ledgers, N: Opening, O: LinkOut + Drop, S: Sink<O>> WriterRole<T, N, O, 
             &mut self.thread_log,
             &mut self.kept.share,
             dirs,
+            spares,
         )
     }
 

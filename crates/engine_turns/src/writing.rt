@@ -9,6 +9,7 @@ ghost use Rattle.engine_turns.specs.Turns.{ByBoth};
 
 use crate::batches::{BATCH, Batch};
 use crate::replies::JobReply;
+use crate::spare_buffers::SpareBuffers;
 use crate::table_lock::TableLock;
 use engine::LinkOut;
 use engine_queues::replies::{Gets, QueuedReply, ReplyPass, ReplyReceiver};
@@ -105,7 +106,7 @@ impl Writer {
     }
 
     /// Takes what is queued, at most 16 replies, offers them together, and settles the answer of each: as taken only if
-    /// the link took its reply. It does not wait for replies, and returns how many there were.
+    /// the link took its reply. It does not wait for replies, and returns how many there were. Their buffers are spare then.
     pub fn turns<H: Wait, T: Ledgers, O: Opening, L: LinkOut, D: Folders>(
         &mut self,
         table_lock: &TableLock<'_, H, T, O>,
@@ -113,6 +114,7 @@ impl Writer {
         thread_log: &mut ThreadLog<LogEntry<T>, Runs<O>>,
         share: &mut Share<T>,
         dirs: &mut D,
+        spares: &mut SpareBuffers,
     ) -> usize
         ensures queue { receives_on self.new.replies ≡ receives_on self.old.replies }
         ensures made { (view self.new.pass).made ≡ (view self.old.pass).made }
@@ -124,7 +126,7 @@ impl Writer {
         ensures index { share.new.index ≡ share.old.index }
     {
         self.take_queued(table_lock.rt);
-        self.is_broken = self.batch.offer(link, self.is_broken);
+        self.is_broken = self.batch.offer(link, self.is_broken, spares);
         self.batch.settle(table_lock, thread_log, share, dirs);
         self.batch.settled.len()
     }

@@ -1,5 +1,6 @@
 -- A name in a folder, by the folder's numbers.
-use Rattle.std.specs.Prelude.{ℕ, ◌≡◌, ◌==◌, ◌&&◌, Bool, true, List, nat_eq}
+use Rattle.std.specs.Prelude.{ℕ, ◌≡◌, ◌==◌, ◌&&◌, ◌++◌, ◌∷◌, [], Bool, true, List, nat_eq}
+use Rattle.std.specs.Hash as fed
 use Rattle.std.specs.Ordering.{eq_of_both, on}
 use Rattle.std.specs.Cmp.Lexicographic.{pointwise, bytes_decides}
 use Rattle.std.proofs.Common.{ap, ◌∙◌}
@@ -27,3 +28,15 @@ key_is device inode name key is =
 
 pub is_key-congr : (device inode : ℕ) (name : List ℕ) (x y : FileKey) → is_key device inode name x ≡ true → is_key device inode name y ≡ same_key x y
 is_key-congr device inode name x y is = ap (λ (k : FileKey). same_key k y) (key_is device inode name x is)
+
+-- what a key feeds a hasher: the folder's numbers, and the bytes of the name
+abbrev pub fed_key : (device inode : ℕ) → List ℕ → List (List ℕ)
+fed_key device inode name = fed.u64 device ++ fed.u64 inode ++ name ∷ []
+
+pub same_fed : (device other inode that : ℕ) (name more : List ℕ) → ((device == other) && ((inode == that) && pointwise nat_eq name more)) ≡ true → fed_key device inode name ≡ fed_key other that more
+same_fed device other inode that name more is =
+    let parts = and_parts (device == other) ((inode == that) && pointwise nat_eq name more) is in
+    let parts' = and_parts (inode == that) (pointwise nat_eq name more) parts.1 in
+    ap (λ (n : ℕ). fed_key n inode name) (eqb-true device other parts.0)
+    ∙ ap (λ (n : ℕ). fed_key other n name) (eqb-true inode that parts'.0)
+    ∙ ap (λ (bytes : List ℕ). fed_key other that bytes) ((bytes_decides name more).0 parts'.1)

@@ -1,20 +1,21 @@
 //! The key of an open file, and a query for it that copies no name.
 
 ghost use Rattle.std.specs.Prelude.{◌≡◌, IfOk};
+ghost use Rattle.std.specs.List.{fold};
 ghost use Rattle.std.specs.Cmp.Rules.{comparing};
 ghost use Rattle.std.proofs.Common.{rules};
 ghost use Rattle.std.proofs.Common.{ap};
 ghost use Rattle.linux_disk.specs.declared.keys.FileKey.{FileKey};
-ghost use Rattle.linux_disk.specs.Keys.{same_key, is_key, key_is, key_of, is_key-congr};
+ghost use Rattle.linux_disk.specs.Keys.{same_key, is_key, key_is, key_of, is_key-congr, fed_key, same_fed};
 
 use disk::FileId;
 use paths::Name;
 use std::alloc::AllocError;
 use std::collections::hash_map::Equivalent;
-use std::hash::Hash;
+use std::hash::{Hash, Hasher};
 
 /// A name in the folder of these numbers.
-#[derive(Eq, Hash, Drop)]
+#[derive(Eq, Drop)]
 pub struct FileKey {
     pub(crate) device: u64,
     pub(crate) inode: u64,
@@ -31,12 +32,42 @@ impl PartialEq for FileKey {
     }
 }
 
+impl Hash for FileKey {
+    // The numbers come first and have eight bytes each, so nothing needs to end the name: no two keys give a hasher the same bytes.
+    ghost hash_input = { λ k. fed_key k.device k.inode k.name };
+
+    ghost respects_eq = { λ x y same. ap (λ (k : FileKey). fed_key k.device k.inode k.name) (key_is x.device x.inode x.name y same) };
+
+    fn hash<H: Hasher>(&self, state: &mut H) {
+        feed(self.device, self.inode, &self.name, state);
+    }
+}
+
+/// Feeds the key of that name in the folder of these numbers.
+fn feed<H: Hasher>(device: u64, inode: u64, name: &Name, state: &mut H)
+    ensures { state.new ≡ fold H.write state.old (fed_key device inode name.now) }
+{
+    state.write_u64(device);
+    state.write_u64(inode);
+    state.write(name.as_bytes());
+}
+
 /// What stands for the key of that name in that folder.
-#[derive(Clone, Copy, PartialEq, Eq, Hash)]
+#[derive(Clone, Copy, PartialEq, Eq)]
 pub struct Query<'a> {
     pub(crate) device: u64,
     pub(crate) inode: u64,
     pub(crate) name: &'a Name,
+}
+
+impl<'a> Hash for Query<'a> {
+    ghost hash_input = { λ q. fed_key q.device q.inode q.name.now };
+
+    ghost respects_eq = { λ x y same. same_fed x.device y.device x.inode y.inode x.name.now y.name.now same };
+
+    fn hash<H: Hasher>(&self, state: &mut H) {
+        feed(self.device, self.inode, self.name, state);
+    }
 }
 
 impl<'a> Equivalent<FileKey> for Query<'a> {

@@ -11,6 +11,9 @@ use payload::{HEADER_ROOM, Payload};
 use std::alloc::{AllocError, Global};
 use wire::{NO_INO, ReplyBody, encode_dirent};
 
+/// An entry is written with a whole word of padding, of which what is too much is cut off: so the last one needs that much more memory.
+const PADDING: usize = 8;
+
 /// Room for the header of a reply, and after it no entries yet, with memory for these.
 pub(crate) fn page_in(alloc: Global, entries: &[Child], plus: bool) -> Result<Vec<u8>, AllocError>
     ensures { IfOk result (λ page. length page.items ≡ HEADER_ROOM) }
@@ -18,7 +21,7 @@ pub(crate) fn page_in(alloc: Global, entries: &[Child], plus: bool) -> Result<Ve
     let Some(len) = page_len(entries, plus) else {
         return Err(AllocError);
     };
-    let mut page = Vec::with_capacity(alloc, len.saturating_add(HEADER_ROOM))?;
+    let mut page = Vec::with_capacity(alloc, len.saturating_add(HEADER_ROOM + PADDING))?;
     page.extend_from_slice(&[0; HEADER_ROOM])?;
     Ok(page)
 }

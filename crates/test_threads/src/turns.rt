@@ -14,7 +14,7 @@ use engine::{Served, SessionEnd};
 use engine_queues::jobs::{Cut, Fair, Hand, JobPass, JobSender};
 use engine_queues::passes::Passes;
 use engine_queues::replies::{InOrder, QueuedReply, ReplyLane, ReplyPass, ReplySender, Roles};
-use engine_turns::{Job, JobReply, Reader, TableHandle, ThreadShare, Worker};
+use engine_turns::{Job, JobReply, Reader, SpareBuffers, TableHandle, ThreadShare, Worker};
 use handles::Dirs;
 use ledger::{Blanks, Ledgers, Posting, Share};
 use shared_history::{Opened, ThreadLog};
@@ -87,7 +87,8 @@ fn lone_worker<H: Wait + Clone + Drop>(rt: &H, alloc: Global) -> Result<Worker, 
     let passes = passes_of(&jobs, &replies, &mut read, &mut written);
     let worker = Worker::new(alloc, SETTINGS, work, replies, passes);
     let mut reader = Reader::new(alloc, jobs, read)?;
-    let _end = reader.turn(rt, &mut asks(rt, alloc)?);
+    let mut spares = SpareBuffers::new(alloc);
+    let _end = reader.turn(rt, &mut asks(rt, alloc)?, &mut spares);
     drop(receiver);
     Ok(worker)
 }
@@ -227,7 +228,8 @@ fn read_for_nobody<H: Wait + Clone + Drop>(
     let (jobs, work, read) = bounded_with::<Job, Hand<Job>, Fair, Global>(alloc, 16)?;
     let mut reader = Reader::new(alloc, jobs, read)?;
     drop(work);
-    let end = reader.turn(rt, &mut asks(rt, alloc)?);
+    let mut spares = SpareBuffers::new(alloc);
+    let end = reader.turn(rt, &mut asks(rt, alloc)?, &mut spares);
     match &reader.handed_back {
         Some(job) => Ok((end, Some(job.ordinal))),
         None => Ok((end, None)),

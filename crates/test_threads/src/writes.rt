@@ -12,7 +12,9 @@ use crossbeam_channel::bounded_with;
 use engine::{Sent, Served};
 use engine_queues::jobs::{Fair, Hand};
 use engine_queues::replies::{InOrder, QueuedReply, ReplyLane};
-use engine_turns::{Job, JobReply, Reader, TableHandle, TableLock, ThreadShare, Worker, Writer};
+use engine_turns::{
+    Job, JobReply, Reader, SpareBuffers, TableHandle, TableLock, ThreadShare, Worker, Writer,
+};
 use handles::Dirs;
 use ledger::{Blanks, Ledgers, Posting, Share};
 use shared_history::{Opened, ThreadLog};
@@ -53,7 +55,7 @@ fn both<H: Wait + Drop>(
     let passes = passes_of(&jobs, &replies, &mut read, &mut written);
     let worker = Worker::new(alloc, SETTINGS, work, replies, passes);
     let mut reader = Reader::new(alloc, jobs, read)?;
-    let _end = reader.turn(rt, &mut asks);
+    let _end = reader.turn(rt, &mut asks, &mut SpareBuffers::new(alloc));
     let writer = Writer::new(alloc, receiver, written)?;
     Ok((worker, writer))
 }
@@ -75,7 +77,14 @@ fn work_and_write<H: Wait + Drop, T: Ledgers, N: Opening>(
         let _turn = worker.turn(&mut table_handle, share, served);
     }
     let table_lock = TableLock { rt, shared_table };
-    let _count = writer.turns(&table_lock, hears, own, share, &mut served.dirs);
+    let _count = writer.turns(
+        &table_lock,
+        hears,
+        own,
+        share,
+        &mut served.dirs,
+        &mut worker.spare_replies,
+    );
 }
 
 /// The same on a shared table made of this one. Returns the table's final image.

@@ -7,12 +7,12 @@ ghost use Rattle.wire.specs.declared.cutter.CutFault.TheVariants.{Memory};
 
 use crate::standing::{NextFrame, standing_in};
 use crate::window::Window;
-use smallvec::SmallVec;
 use std::alloc::{AllocError, Global};
 use std::marker::Model;
+use std::mem;
 
-/// A whole frame. One of up to 96 bytes needs no allocation, for example a LOOKUP of a name of up to 55 bytes.
-pub type Frame = SmallVec<u8, 96>;
+/// A whole frame.
+pub type Frame = Vec<u8>;
 
 /// Why no frame could be returned, or no bytes taken.
 #[derive(Clone, Copy, Debug, PartialEq, Eq)]
@@ -131,8 +131,24 @@ impl Cutter {
         self.kept.skip(len);
     }
 
-    /// Removes the next whole frame, if there is one, and returns a copy of it.
+    /// Removes the next whole frame, if there is one, and returns a copy of it. The program calls `next_in`; this is for who has no buffer.
     pub fn next(&mut self) -> Result<Option<Frame>, CutFault>
+        ensures frame { IfOk result (λ o. IfSome o (λ f. HandsOut self.old f.items self.new)) }
+        ensures none { IfOk result (λ o. IfNone o (IsPartial self.old.kept × (self.new ≡ self.old))) }
+        ensures bad { (len : ℕ) → (result ≡ Err (CutFault.BadLength len)) ↔ BeginsBadly self.old.kept len }
+        ensures for_good { (len : ℕ) → result ≡ Err (CutFault.BadLength len) → self.new ≡ record self.old { stopped = Some len } }
+        ensures memory { result ≡ Err CutFault.Memory → self.new ≡ self.old }
+
+        // Memory is allocated only if there is a whole frame.
+        ensures asked { result ≡ Err CutFault.Memory → (len : ℕ) × IsWhole self.old.kept len }
+    {
+        let mut buffer = Vec::new(self.alloc);
+        self.next_in(&mut buffer)
+    }
+
+    /// Does the same with the memory of this buffer: the copy takes the place of what stands in it, and where a frame is returned a
+    /// buffer without memory takes its own.
+    pub fn next_in(&mut self, buffer: &mut Vec<u8>) -> Result<Option<Frame>, CutFault>
         ensures frame { IfOk result (λ o. IfSome o (λ f. HandsOut self.old f.items self.new)) }
         ensures none { IfOk result (λ o. IfNone o (IsPartial self.old.kept × (self.new ≡ self.old))) }
         ensures bad { (len : ℕ) → (result ≡ Err (CutFault.BadLength len)) ↔ BeginsBadly self.old.kept len }
@@ -152,9 +168,10 @@ impl Cutter {
                 Err(CutFault::BadLength { len })
             }
             NextFrame::Whole(len) => {
-                let frame = SmallVec::from_slice(self.alloc, &self.kept.as_slice()[..len])?;
+                buffer.clear();
+                buffer.extend_from_slice(&self.kept.as_slice()[..len])?;
                 self.kept.skip(len);
-                Ok(Some(frame))
+                Ok(Some(mem::replace(buffer, Vec::new(self.alloc))))
             }
         }
     }

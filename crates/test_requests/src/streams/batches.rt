@@ -4,7 +4,6 @@ use crate::streams::narrow::{Narrow, make_narrow};
 use engine::Sent::{Broken, Taken};
 use engine::{LinkOut, ReplyBytes, Sent};
 use engine_streams::StreamLink;
-use smallvec::SmallVec;
 use std::alloc::{AllocError, Global};
 use std::io;
 use std::test::Fail;
@@ -16,7 +15,7 @@ fn reply(alloc: Global, place: u8, len: usize) -> Result<ReplyBytes, AllocError>
     }
     let mut bytes = Vec::new(alloc);
     bytes.resize(len, place)?;
-    Ok(ReplyBytes::Whole(SmallVec::from_vec(bytes)))
+    Ok(ReplyBytes::Whole(bytes))
 }
 
 /// Replies of these lengths. The bytes of the first are ones.

@@ -4,7 +4,6 @@ use engine::Received::{Broken, Bytes, End};
 use engine::Sent::{Taken, Untaken};
 use engine::{LinkIn, LinkOut, Received, Sent};
 use engine_streams::{DeviceLink, NoDevice};
-use smallvec::SmallVec;
 use std::alloc::{AllocError, Global};
 use std::sync::{Arc, Mutex};
 use std::test::Fail;
@@ -104,7 +103,7 @@ fn replies(alloc: Global) -> Result<Vec<engine::ReplyBytes>, AllocError> {
     for (place, len) in [(2u8, 20usize), (3, 24)] {
         let mut bytes = Vec::new(alloc);
         bytes.resize(len, place)?;
-        frames.push(engine::ReplyBytes::Whole(SmallVec::from_vec(bytes)))?;
+        frames.push(engine::ReplyBytes::Whole(bytes))?;
     }
     Ok(frames)
 }

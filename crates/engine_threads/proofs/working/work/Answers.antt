@@ -14,8 +14,8 @@ loop-init g c =
       worked = subst (λ (o : OnTable). ∥ HasWorkedSo (does_shared g.C.Calls.gives) g.S.Workers.settings g.S.Workers.given r.worker r.calls r.kept.share o ∥₁) (sym (ap on_table_of c.new-table_handle.ensures)) r.worked;
     }
 
-pub loop-preserved-then-read : goal.loop-preserved-then-read
-loop-preserved-then-read g c =
+pub loop-preserved-then-take_turns : goal.loop-preserved-then-take_turns
+loop-preserved-then-take_turns g c =
     let l = c.loop in
     let i = l.invariant in
     let t = c.take_turns in

@@ -16,6 +16,6 @@ returns-clause-meets g c =
         meets = meets_as c.args.session.now.settings h.turn c.args.job.now.agreed c.handle_frame.new.self.agreed _ _ _ _ before after h.meets;
       };
       draws = h.draws;
-      writes = writes_of _ _ _ _ c.new-reply_buffer.ensures c.into_said.ensures h.passes;
+      writes = writes_of _ _ _ _ c.new-reply_buffer.ensures c.into_parts-said.ensures h.passes;
       gains = gains_as _ _ _ _ _ _ before after c.handle_frame.ensures.gains;
     }

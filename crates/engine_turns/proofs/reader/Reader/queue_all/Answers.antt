@@ -100,17 +100,17 @@ returns-in-Err-Memory-clause-all g c =
 -- it may be stopped now
 pub invariant_of-self-in-Err-1-clause-stopped_by : goal.invariant_of-self-in-Err-1-clause-stopped_by
 invariant_of-self-in-Err-1-clause-stopped_by g c =
-    let e = c.next.ensures in
-    stopped_after (λ f. f.items) c.loop-frame.self.cutter c.next.new.self c.next.result e.frame e.none e.bad e.for_good e.memory c.loop-frame.self.stopped_by
+    let e = c.next_frame.ensures in
+    stopped_after (λ f. f.items) c.loop-frame.self.cutter c.next_frame.new.cutter c.next_frame.result e.frame e.none e.bad e.for_good e.memory c.loop-frame.self.stopped_by
 
 pub invariant_of-self-else-ends_session : goal.invariant_of-self-else-ends_session
 invariant_of-self-else-ends_session g c =
     let l = c.loop-frame.self in
-    let e = c.next.ensures in
+    let e = c.next_frame.ensures in
     record {
       within = l.within;
       room_len = l.room_len;
-      stopped_by = stopped_after (λ f. f.items) l.cutter c.next.new.self c.next.result e.frame e.none e.bad e.for_good e.memory l.stopped_by;
+      stopped_by = stopped_after (λ f. f.items) l.cutter c.next_frame.new.cutter c.next_frame.result e.frame e.none e.bad e.for_good e.memory l.stopped_by;
       seated = l.seated;
       some_part = l.some_part;
       takes_none = l.takes_none;

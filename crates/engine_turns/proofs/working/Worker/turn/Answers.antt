@@ -16,11 +16,11 @@ try_recv_as-requires-clause-rule g c = (takes_one _ _ (let e = c.args.self.now.o
 pub returns-in-Ok-clause-worked : goal.returns-in-Ok-clause-worked
 returns-in-Ok-clause-worked g c settled e =
     let s = c.args.self.now in
-    let a = c.meet.new in
+    let a = c.meet-settled.new in
     let taken = c.in-Ok.ensures.rule in
-    let same : c.meet.result ≡ settled = ap settled_by e in
+    let same : c.meet-settled.result ≡ settled = ap settled_by e in
     record {
       job = c.in-Ok.job;
       answers = subst₂ (λ (h : Hand Job) (o : Option Settlement). AnswersJob (does g.C.Calls.gives g.D.Folders.keeps) s.session.settings s.number c.in-Ok.job (standing h (outbox (view s.reply_pass) s.handed_back) (means c.args.served.now c.args.share.now (on_table_of c.args.table_handle.now.thread_log))) o
-          (standing (view a.self.job_pass) (outbox (view a.self.reply_pass) a.self.handed_back) (means a.served a.share (on_table_of a.table_handle.thread_log)))) taken same c.meet.ensures.answers;
+          (standing (view a.self.job_pass) (outbox (view a.self.reply_pass) a.self.handed_back) (means a.served a.share (on_table_of a.table_handle.thread_log)))) taken same c.meet-settled.ensures.answers;
     }
