@@ -33,9 +33,12 @@ pub struct Listed {
     pub changes: u64,
 }
 
-/// By the bytes of their names.
+/// By the bytes of the names, most of which differ in the first eight.
 fn compare(one: &Name, other: &Name) -> Ordering {
-    one.as_bytes().cmp(other.as_bytes())
+    match one.leading().cmp(&other.leading()) {
+        Ordering::Equal => one.as_bytes().cmp(other.as_bytes()),
+        order => order,
+    }
 }
 
 /// Sorts the names by their bytes. It takes no memory.
