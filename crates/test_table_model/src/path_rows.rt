@@ -58,6 +58,64 @@ fn a_name_has_any_bytes(rt: HostRuntime) -> Result<(), Fail> {
     Ok(())
 }
 
+/// Two names that differ in one byte or by one more, at each end of the words by which short names are compared, and the first eight bytes of
+/// each as a number.
+const APART: [(&[u8], u64, &[u8], u64); 7] = [
+    (b"", 0, b"\0", 0),
+    (b"a", 0x6100_0000_0000_0000, b"a\0", 0x6100_0000_0000_0000),
+    (
+        b"abcdefgh",
+        0x6162_6364_6566_6768,
+        b"abcdefgi",
+        0x6162_6364_6566_6769,
+    ),
+    (
+        b"abcdefgh",
+        0x6162_6364_6566_6768,
+        b"abcdefghi",
+        0x6162_6364_6566_6768,
+    ),
+    (
+        b"abcdefghijklmnop",
+        0x6162_6364_6566_6768,
+        b"abcdefghijklmnoq",
+        0x6162_6364_6566_6768,
+    ),
+    (
+        b"abcdefghijklmnopqrstuv",
+        0x6162_6364_6566_6768,
+        b"abcdefghijklmnopqrstuw",
+        0x6162_6364_6566_6768,
+    ),
+    (
+        b"\xffbcdefghijklmnopqrstuvw",
+        0xff62_6364_6566_6768,
+        b"\xfebcdefghijklmnopqrstuvw",
+        0xfe62_6364_6566_6768,
+    ),
+];
+
+/// Whether both are names of their own, with these numbers.
+fn are_apart(
+    alloc: Global,
+    (one, first): (&[u8], u64),
+    (other, second): (&[u8], u64),
+) -> Result<bool, AllocError> {
+    let one = Name::copy_of(alloc, one)?;
+    let other = Name::copy_of(alloc, other)?;
+    let is_each = one.is(&one) && other == other && !one.is(&other) && other != one;
+    Ok(is_each && one.leading() == first && other.leading() == second)
+}
+
+#[test]
+fn names_that_differ_in_one_byte_are_apart(rt: HostRuntime) -> Result<(), Fail> {
+    for (one, first, other, second) in APART {
+        let is_so = are_apart(rt.alloc(), (one, first), (other, second))?;
+        assert!(rt; is_so);
+    }
+    Ok(())
+}
+
 #[test]
 fn two_names_make_a_path(rt: HostRuntime) -> Result<(), Fail> {
     let path = two_names(rt.alloc())?;
