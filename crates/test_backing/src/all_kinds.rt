@@ -1,9 +1,9 @@
 //! Rows for links, on directories that show all kinds. No call follows one.
 
-use crate::asking::{expect_count, expect_rows};
-use crate::memory::{InMemory, folder_of};
+use crate::asked::expect_told;
+use crate::memory::folder_of;
 use crate::opening::{CAPACITY, Opened, open_of};
-use crate::rows::{expect_told, tell_hold, tell_tree};
+use crate::rows::{tell_hold, tell_tree};
 use crate::sample_trees::{sample_disk, sample_folder};
 use std::alloc::Global;
 use std::fs;
@@ -176,9 +176,14 @@ const GROUPS: [&[(&str, &str)]; 7] = [
     ],
 ];
 
+/// They are handed out by one function, since each one that names the rows is checked for all of them.
+fn groups() -> [&'static [(&'static str, &'static str)]; 7] {
+    GROUPS
+}
+
 #[test]
 fn links_on_a_memory_tree(rt: HostRuntime) -> Result<(), Fail> {
-    for rows in GROUPS {
+    for rows in groups() {
         tell_tree(rt.alloc(), rows)?;
     }
     Ok(())
@@ -186,32 +191,21 @@ fn links_on_a_memory_tree(rt: HostRuntime) -> Result<(), Fail> {
 
 #[test]
 fn links_through_a_hold(rt: HostRuntime) -> Result<(), Fail> {
-    for rows in GROUPS {
+    for rows in groups() {
         tell_hold(rt.alloc(), rt, rows)?;
     }
     Ok(())
 }
 
-/// The rows on that folder, of whose calls so many fail.
-fn expect_in_memory(
-    alloc: Global,
-    folder: &mut InMemory,
-    rows: &[(&str, &str)],
-    failures: u64,
-) -> Result<(), Fail> {
-    expect_rows(alloc, folder, rows)?;
-    expect_count(folder.failures(), failures)
-}
-
 /// The rows on a folder of a disk in memory, starting from the sample.
 fn tell_disk(rt: &HostRuntime, rows: &[(&str, &str)], failures: u64) -> Result<(), Fail> {
     let mut folder = folder_of(rt, sample_disk(rt.alloc())?, CAPACITY)?;
-    expect_in_memory(rt.alloc(), &mut folder, rows, failures)
+    expect_told(rt.alloc(), &mut folder, rows, failures)
 }
 
 #[test]
 fn links_on_a_disk_in_memory(rt: HostRuntime) -> Result<(), Fail> {
-    for rows in GROUPS {
+    for rows in groups() {
         tell_disk(&rt, rows, 0)?;
     }
     Ok(())
@@ -232,7 +226,7 @@ fn tell_real(rt: &HostRuntime, rows: &[(&str, &str)], failures: u64) -> Result<(
 
 #[test]
 fn links_on_a_real_folder(rt: HostRuntime) -> Result<(), Fail> {
-    for rows in GROUPS {
+    for rows in groups() {
         tell_real(&rt, rows, 0)?;
     }
     Ok(())

@@ -1,12 +1,12 @@
 //! Calls as words, and answers as text.
 
+use crate::asked::Asked;
 use crate::details::{call_that_sets, mode_told, names_told, octal, owner_told, times_told};
 use crate::texts;
-use backing::{Answer, Call, Calls, Child};
+use backing::{Answer, Call, Child};
 use paths::Path;
 use payload::{Kind, Special};
 use std::alloc::{AllocError, Global};
-use std::test::Fail;
 
 /// The path that the text spells: names with `/` between them, and `.` for the root. Behind `x:` a name has digits for its bytes.
 pub fn path_of(alloc: Global, text: &str) -> Result<Path, AllocError> {
@@ -88,9 +88,9 @@ fn filling(place: u64) -> u8 {
 }
 
 /// The answer to one call that fills that many bytes of the file.
-fn fill<C: Calls>(
+fn fill<A: Asked>(
     alloc: Global,
-    calls: &mut C,
+    asked: &mut A,
     path: &Path,
     offset: u64,
     count: u64,
@@ -100,7 +100,7 @@ fn fill<C: Calls>(
         piece.push(filling(place))?;
     }
     let data = piece.as_slice();
-    shown(alloc, calls.call(Call::Write { path, offset, data }))
+    shown(alloc, asked.answer(Call::Write { path, offset, data }))
 }
 
 /// How many of the bytes are those with which a file is filled, from that offset on.
@@ -117,15 +117,15 @@ fn count_filled(bytes: &[u8], offset: u64) -> u64 {
 }
 
 /// How many bytes one call reads, and how many of them are those with which the file was filled.
-fn check<C: Calls>(
+fn check<A: Asked>(
     alloc: Global,
-    calls: &mut C,
+    asked: &mut A,
     path: &Path,
     offset: u64,
     size: u64,
 ) -> Result<String, AllocError> {
     let size = u32::try_from(size).unwrap_or(0);
-    match calls.call(Call::Read { path, offset, size }) {
+    match asked.answer(Call::Read { path, offset, size }) {
         Answer::Bytes(bytes) => {
             let right = count_filled(bytes.as_slice(), offset);
             format!(in alloc; "{right} of {}", bytes.as_slice().len())
@@ -135,19 +135,19 @@ fn check<C: Calls>(
 }
 
 /// The answer to one call that makes a link with that text.
-fn link<C: Calls>(
+fn link<A: Asked>(
     alloc: Global,
-    calls: &mut C,
+    asked: &mut A,
     path: &Path,
     text: Vec<u8>,
 ) -> Result<String, AllocError> {
     let text = text.as_slice();
-    shown(alloc, calls.call(Call::MakeLink { path, text }))
+    shown(alloc, asked.answer(Call::MakeLink { path, text }))
 }
 
 /// How long the text of the link is, and how many of its bytes are those of a text that was filled.
-fn check_link<C: Calls>(alloc: Global, calls: &mut C, path: &Path) -> Result<String, AllocError> {
-    match calls.call(Call::ReadLink(path)) {
+fn check_link<A: Asked>(alloc: Global, asked: &mut A, path: &Path) -> Result<String, AllocError> {
+    match asked.answer(Call::ReadLink(path)) {
         Answer::Bytes(text) => {
             let right = texts::count_filled(text.as_slice());
             format!(in alloc; "{right} of {}", text.as_slice().len())
@@ -160,28 +160,28 @@ fn check_link<C: Calls>(alloc: Global, calls: &mut C, path: &Path) -> Result<Str
 /// bytes, `fill` writes them in one call, and `check` reads them in one. `link` makes a link with that text, `link-hex` with
 /// the bytes that it spells, and `link-fill` with so many, which `link-check` reads. `name` gives what stands at the path a further
 /// one. `mode`, `owner`, `times` and `names`, how many what stands there has, show parts of what a STAT reports.
-pub fn ask<C: Calls>(alloc: Global, calls: &mut C, words: &str) -> Result<String, AllocError> {
+pub fn ask<A: Asked>(alloc: Global, asked: &mut A, words: &str) -> Result<String, AllocError> {
     let mut parts = words.split(' ');
     let name = parts.next().unwrap_or("");
     let path = path_of(alloc, parts.next().unwrap_or("."))?;
     let first = parts.next().unwrap_or("");
     let second = parts.next().unwrap_or("");
     match name {
-        "fill" => return fill(alloc, calls, &path, number(first), number(second)),
-        "check" => return check(alloc, calls, &path, number(first), number(second)),
+        "fill" => return fill(alloc, asked, &path, number(first), number(second)),
+        "check" => return check(alloc, asked, &path, number(first), number(second)),
         "link" | "link-hex" | "link-fill" => {
-            return link(alloc, calls, &path, texts::text_of(alloc, name, first)?);
+            return link(alloc, asked, &path, texts::text_of(alloc, name, first)?);
         }
-        "link-check" => return check_link(alloc, calls, &path),
-        "mode" => return mode_told(alloc, calls.call(Call::Stat(&path))),
-        "owner" => return owner_told(alloc, calls.call(Call::Stat(&path))),
-        "times" => return times_told(alloc, calls.call(Call::Stat(&path))),
-        "names" => return names_told(alloc, calls.call(Call::Stat(&path))),
+        "link-check" => return check_link(alloc, asked, &path),
+        "mode" => return mode_told(alloc, asked.answer(Call::Stat(&path))),
+        "owner" => return owner_told(alloc, asked.answer(Call::Stat(&path))),
+        "times" => return times_told(alloc, asked.answer(Call::Stat(&path))),
+        "names" => return names_told(alloc, asked.answer(Call::Stat(&path))),
         _ => {}
     }
     let other = path_of(alloc, first)?;
     match call_of(name, &path, &other, first, second) {
-        Some(call) => shown(alloc, calls.call(call)),
+        Some(call) => shown(alloc, asked.answer(call)),
         None => String::from_str(alloc, "no call"),
     }
 }
@@ -259,38 +259,4 @@ fn hexadecimal(alloc: Global, bytes: &[u8]) -> Result<String, AllocError> {
         text.push_str(digits.as_str())?;
     }
     Ok(text)
-}
-
-/// Checks that the call has this answer.
-pub fn expect<C: Calls>(
-    alloc: Global,
-    calls: &mut C,
-    words: &str,
-    wanted: &str,
-) -> Result<(), Fail> {
-    let told = ask(alloc, calls, words)?;
-    if told.as_str() == wanted {
-        return Ok(());
-    }
-    Err(Fail::from((words, told)))
-}
-
-/// Checks that that many failures were counted.
-pub fn expect_count(told: u64, wanted: u64) -> Result<(), Fail> {
-    if told == wanted {
-        return Ok(());
-    }
-    Err(Fail::from(("counted", told)))
-}
-
-/// Checks that each call has its answer.
-pub fn expect_rows<C: Calls>(
-    alloc: Global,
-    calls: &mut C,
-    rows: &[(&str, &str)],
-) -> Result<(), Fail> {
-    for (words, wanted) in rows {
-        expect(alloc, calls, words, wanted)?;
-    }
-    Ok(())
 }

@@ -1,6 +1,6 @@
 //! Names that are no UTF-8, over a tree in memory and over folders that show them.
 
-use crate::asking::expect_rows;
+use crate::asked::expect_rows;
 use crate::memory::folder_of;
 use crate::rows::tell_tree;
 use crate::sample_trees::sample_disk;

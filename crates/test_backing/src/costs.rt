@@ -1,5 +1,6 @@
 //! Which calls of the system a call makes.
 
+use crate::asking::ask;
 use crate::opening::{Opened, open};
 use crate::sample_trees::{place_of, sample_folder};
 use crate::telling::{Item, Step, tell};
@@ -91,7 +92,7 @@ fn count(text: &str, word: &str) -> u64 {
 
 /// Lists the folder and asks for each of its names.
 fn list_and_stat(alloc: Global, opened: &mut Opened) -> Result<(), Fail> {
-    let _ = opened.ask(alloc, "list d")?;
+    let _ = ask(alloc, opened, "list d")?;
     for n in 0..NAMES {
         let words = format!(in alloc; "stat d/{n}")?;
         opened.expect(alloc, words.as_str(), "file 4")?;

@@ -1,6 +1,6 @@
 //! Long ways and long names.
 
-use crate::asking::expect_count;
+use crate::asked::{Asked, expect_count};
 use crate::opening::{Opened, open_with};
 use crate::sample_trees::sample_folder;
 use std::alloc::{AllocError, Global};
@@ -82,7 +82,7 @@ const DEEP: &[(&str, &str)] = &[
 fn go_deep(alloc: Global, opened: &mut Opened) -> Result<(), Fail> {
     let path = make_deep(alloc, opened)?;
     expect_filled(alloc, opened, DEEP, path.as_str())?;
-    expect_count(opened.failures(), 0)
+    expect_count(opened.failed(), 0)
 }
 
 fn go_deep_at(rt: &HostRuntime, root: &str, capacity: usize) -> Result<(), Fail> {
@@ -164,7 +164,7 @@ fn longest(alloc: Global) -> Result<String, AllocError> {
 fn name_long(alloc: Global, opened: &mut Opened) -> Result<(), Fail> {
     let name = longest(alloc)?;
     expect_filled(alloc, opened, LONG, name.as_str())?;
-    expect_count(opened.failures(), 5)
+    expect_count(opened.failed(), 5)
 }
 
 fn name_long_at(rt: &HostRuntime, root: &str) -> Result<(), Fail> {

@@ -1,7 +1,8 @@
 //! A real folder whose system fails, or changes between two of its calls.
 
+use crate::asked::expect_told;
 use crate::opening::open;
-use crate::rows::{expect_told, tell_folder};
+use crate::rows::tell_folder;
 use crate::sample_trees::sample_folder;
 use crate::telling::{Item, Step, details_at, tell};
 use crate::watch::Trick;

@@ -1,7 +1,7 @@
 //! A root that others take away while it is served, and folders that may not be read.
 
+use crate::asked::expect_told;
 use crate::opening::{Opened, open};
-use crate::rows::expect_told;
 use crate::sample_trees::{place_of, sample_folder};
 use crate::telling::{Item, Step, TRUSTED, tell};
 use std::fs;

@@ -4,6 +4,8 @@
 #[cfg(test)]
 mod all_kinds;
 #[cfg(test)]
+mod asked;
+#[cfg(test)]
 mod asking;
 #[cfg(test)]
 mod attributes;
@@ -57,6 +59,8 @@ mod telling;
 mod texts;
 #[cfg(test)]
 mod trusted;
+#[cfg(test)]
+mod two;
 #[cfg(test)]
 mod unseen;
 #[cfg(test)]

@@ -1,7 +1,7 @@
 //! Stories about a real folder that shows all kinds: links and sockets are told as what they are, and none is opened.
 
+use crate::asked::expect_told;
 use crate::opening::{CAPACITY, open_of};
-use crate::rows::expect_told;
 use crate::telling::{Item, Step, tell_all};
 use std::test::Fail;
 use terms::Kinds;

@@ -1,8 +1,9 @@
 //! A folder of an honest disk in memory beside a memory tree, also where calls of the disk fail.
 
-use crate::asking::{ask, expect_count};
+use crate::asked::{Asked, call_counted, expect_count};
+use crate::asking::ask;
 use crate::random::{Dice, ask_many, call_of};
-use backing::{MemTree, PlannedFault};
+use backing::{Answer, Call, MemTree, PlannedFault};
 use disk::MemoryDisk;
 use disk_folder::Folder;
 use errno::EIO;
@@ -11,11 +12,52 @@ use std::hash::RandomState;
 use std::test::Fail;
 use terms::Kinds;
 
-/// A folder of it.
-pub type InMemory = Folder<MemoryDisk>;
+/// A folder of it, without type parameters as `Opened` is.
+pub struct InMemory {
+    folder: Folder<MemoryDisk>,
+    /// How many of its calls had failed after the last one.
+    failures: u64,
+}
+
+impl Asked for InMemory {
+    fn answer(&mut self, call: Call<'_>) -> Answer {
+        let (answer, failures) = call_counted(&mut self.folder, None, call);
+        self.failures = failures;
+        answer
+    }
+
+    fn failed(&self) -> u64 {
+        self.failures
+    }
+}
+
+impl Drop for InMemory {
+    // This is a call so that code that drops the value is not checked for each of its parts.
+    fn drop(self) {
+        let InMemory {
+            folder: _,
+            failures: _,
+        } = self;
+    }
+}
 
 /// So many calls of the disk fail at most.
 const FAULTS: u64 = 500;
+
+/// A disk that keeps files open by itself where it is shared.
+fn disk_with(
+    alloc: Global,
+    most: usize,
+    shared: bool,
+    shows_all: bool,
+) -> Result<MemoryDisk, AllocError> {
+    let disk = MemoryDisk::new(alloc)?;
+    disk.set_most(most);
+    disk.set_keeps_files(shared);
+    disk.set_is_shared(shared);
+    disk.set_shows_all(shows_all);
+    Ok(disk)
+}
 
 #[test]
 fn a_folder_in_memory_answers_alike(rt: HostRuntime) -> Result<(), Fail> {
@@ -25,11 +67,7 @@ fn a_folder_in_memory_answers_alike(rt: HostRuntime) -> Result<(), Fail> {
         (6, 3, true, true),
     ];
     for (capacity, most, shared, shows_all) in rows {
-        let disk = MemoryDisk::new(rt.alloc())?;
-        disk.set_most(most);
-        disk.set_keeps_files(shared);
-        disk.set_is_shared(shared);
-        disk.set_shows_all(shows_all);
+        let disk = disk_with(rt.alloc(), most, shared, shows_all)?;
         let mut folder = folder_of(&rt, disk, capacity)?;
         ask_many(rt.alloc(), &mut folder, Kinds::All, 1500)?;
     }
@@ -120,16 +158,16 @@ fn ask_failing(
     folder: &mut InMemory,
     words: &str,
 ) -> Result<bool, Fail> {
-    let before = folder.failures();
+    let before = folder.failed();
     let told = ask(alloc, folder, words)?;
-    if folder.failures() == before {
+    if folder.failed() == before {
         let wanted = ask(alloc, tree, words)?;
         if told.as_str() == wanted.as_str() {
             return Ok(true);
         }
         return Err(Fail::from((words, told, wanted)));
     }
-    expect_count(folder.failures(), before.saturating_add(1))?;
+    expect_count(folder.failed(), before.saturating_add(1))?;
     if told.as_str().starts_with("fault ") {
         return Ok(false);
     }
@@ -140,7 +178,10 @@ fn ask_failing(
 pub fn folder_of(rt: &HostRuntime, disk: MemoryDisk, capacity: usize) -> Result<InMemory, Fail> {
     let seed = RandomState::new(rt)?;
     let folder = Folder::new(disk, capacity, seed)?;
-    Ok(folder)
+    Ok(InMemory {
+        folder,
+        failures: 0,
+    })
 }
 
 /// A folder of whose disk's calls each one fails like this that has such a number in a row.
@@ -167,10 +208,10 @@ fn ask_many_failing(
             settle(alloc, &mut tree, folder, words.as_str())?;
         }
     }
-    if folder.failures() > 100 && is_same(alloc, &mut tree, folder)? {
+    if folder.failed() > 100 && is_same(alloc, &mut tree, folder)? {
         return Ok(());
     }
-    Err(Fail::from(("they are not the same", folder.failures())))
+    Err(Fail::from(("they are not the same", folder.failed())))
 }
 
 // A call of the disk that fails before its work changes nothing, so the call of the folder has changed nothing.

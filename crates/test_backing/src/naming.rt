@@ -1,10 +1,11 @@
 //! Further names of what stands at a path. A tree of paths has none, and Linux gives them.
 
-use crate::asking::{expect_count, expect_rows};
+use crate::asked::{Asked, expect_told};
 use crate::memory::folder_of;
 use crate::rows::{tell_hold, tell_tree};
 use crate::sample_trees::sample_disk;
 use crate::telling::{Item, Step, tell, tell_all};
+use std::alloc::Global;
 use std::test::Fail;
 
 /// A tree refuses each, what is wrong with the source first.
@@ -53,6 +54,11 @@ fn a_memory_tree_refuses_each(rt: HostRuntime) -> Result<(), Fail> {
     Ok(())
 }
 
+fn refuse_each<A: Asked>(alloc: Global, folder: &mut A) -> Result<(), Fail> {
+    expect_told(alloc, folder, REFUSED, 0)?;
+    expect_told(alloc, folder, &ONE_NAME[..9], 5)
+}
+
 /// The disk says no more than EPERM of what it does not do: that is a failure of the folder.
 #[test]
 fn a_folder_in_memory_refuses_each(rt: HostRuntime) -> Result<(), Fail> {
@@ -60,10 +66,7 @@ fn a_folder_in_memory_refuses_each(rt: HostRuntime) -> Result<(), Fail> {
         let disk = sample_disk(rt.alloc())?;
         disk.set_shows_all(shows_all);
         let mut folder = folder_of(&rt, disk, 64)?;
-        expect_rows(rt.alloc(), &mut folder, REFUSED)?;
-        expect_count(folder.failures(), 0)?;
-        expect_rows(rt.alloc(), &mut folder, &ONE_NAME[..9])?;
-        expect_count(folder.failures(), 5)?;
+        refuse_each(rt.alloc(), &mut folder)?;
     }
     Ok(())
 }

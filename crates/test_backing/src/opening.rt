@@ -1,14 +1,13 @@
 //! A real folder, as the programs serve one.
 
-use crate::asking::ask;
+use crate::asked::{Asked, call_counted, expect};
 use crate::watch::Watch;
 use crate::watched::Watched;
-use backing::{Answer, Call, Calls};
+use backing::{Answer, Call};
 use disk::{DiskError, Unknown};
 use disk_folder::Folder;
 use errno::{EIO, ENOMEM};
 use linux_disk::{LibC, Linux, NoFiles, OpenFd, StartError};
-use paths::Path;
 use std::alloc::{AllocError, Global};
 use std::hash::RandomState;
 use std::rc::Rc;
@@ -22,44 +21,42 @@ pub const CAPACITY: usize = 64;
 type System = Linux<Watched<LibC>, NoFiles<OpenFd>>;
 
 /// A folder of it.
-pub type Served = Folder<Unknown<System>>;
+type Served = Folder<Unknown<System>>;
 
 /// A folder that is served, and what is seen of its calls of the system. It has no type parameters: so what lends it is not checked for
 /// those of the folder.
 pub struct Opened {
-    pub folder: Served,
+    folder: Served,
+    /// What is to be offered to the folder before its next call.
+    room: Option<Vec<u8>>,
+    /// How many of its calls had failed after the last one.
+    failures: u64,
     pub watch: Rc<Watch>,
     pub kinds: Kinds,
 }
 
-impl Opened {
-    /// The answer to the call.
-    pub fn ask(&mut self, alloc: Global, words: &str) -> Result<String, AllocError> {
-        ask(alloc, &mut self.folder, words)
+impl Asked for Opened {
+    // Nothing else here calls the folder, since each function that does is dear to check.
+    fn answer(&mut self, call: Call<'_>) -> Answer {
+        let (answer, failures) = call_counted(&mut self.folder, self.room.take(), call);
+        self.failures = failures;
+        answer
     }
 
+    fn failed(&self) -> u64 {
+        self.failures
+    }
+}
+
+impl Opened {
     /// Checks that the call has this answer.
     pub fn expect(&mut self, alloc: Global, words: &str, wanted: &str) -> Result<(), Fail> {
-        let told = self.ask(alloc, words)?;
-        if told.as_str() == wanted {
-            return Ok(());
-        }
-        Err(Fail::from((words, told)))
+        expect(alloc, self, words, wanted)
     }
 
-    /// What a look at the path tells.
-    pub fn stat(&mut self, path: &Path) -> Answer {
-        self.folder.call(Call::Stat(path))
-    }
-
-    /// A buffer that is needed no longer.
-    pub fn offer_room(&mut self, buffer: &mut Vec<u8>) {
-        self.folder.offer_room(buffer);
-    }
-
-    /// How many of its calls have failed.
-    pub fn failures(&self) -> u64 {
-        self.folder.failures()
+    /// A buffer that is needed no longer, which the folder gets right before its next call.
+    pub fn offer_room(&mut self, buffer: Vec<u8>) {
+        self.room = Some(buffer);
     }
 }
 
@@ -68,6 +65,8 @@ impl Drop for Opened {
     fn drop(self) {
         let Opened {
             folder: _,
+            room: _,
+            failures: _,
             watch: _,
             kinds: _,
         } = self;
@@ -126,7 +125,8 @@ fn folder_at(
     Folder::new(Unknown::new(system), capacity, seed)
 }
 
-fn watch_at(rt: &HostRuntime, root: &str) -> Result<Rc<Watch>, AllocError> {
+/// What is seen of the calls of the folder at that path.
+pub fn watch_at(rt: &HostRuntime, root: &str) -> Result<Rc<Watch>, AllocError> {
     let watch = Watch::new(rt, root)?;
     let shared = Rc::new(rt.alloc(), watch)?;
     Ok(shared)
@@ -146,6 +146,8 @@ pub fn open_of(
     let folder = folder_at(rt, root, capacity, kinds, &watch)?;
     Ok(Opened {
         folder,
+        room: None,
+        failures: 0,
         watch,
         kinds,
     })

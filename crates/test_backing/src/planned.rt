@@ -1,6 +1,6 @@
 //! A memory tree whose calls fail where that is planned, or at its limit.
 
-use crate::asking::{expect, expect_count};
+use crate::asked::{Asked, expect, expect_count};
 use crate::sample_trees::sample_tree;
 use backing::{MemTree, PlannedFault};
 use std::alloc::Global;
@@ -24,7 +24,7 @@ fn take(alloc: Global, tree: &mut MemTree, step: Step) -> Result<(), Fail> {
             Ok(())
         }
         Step::Ask(words, wanted) => expect(alloc, tree, words, wanted),
-        Step::Failed(count) => expect_count(tree.failures(), count),
+        Step::Failed(count) => expect_count(tree.failed(), count),
     }
 }
 

@@ -1,11 +1,10 @@
 //! Random calls on a memory tree and on a folder of a disk, side by side.
 
-use crate::asking::{ask, expect, expect_count};
+use crate::asked::{Asked, expect, expect_count};
+use crate::asking::ask;
 use crate::opening::{CAPACITY, Opened, open_of};
 use crate::sample_trees::new_folder;
 use backing::MemTree;
-use disk::Disk;
-use disk_folder::Folder;
 use std::alloc::{AllocError, Global};
 use std::fs;
 use std::test::Fail;
@@ -81,6 +80,25 @@ const NAMES: [&str; 25] = [
     "utimes",
 ];
 
+/// What stands behind the path in the words of the call with that number.
+fn rest_of(
+    alloc: Global,
+    dice: &mut Dice,
+    kind: usize,
+    offset: u64,
+    size: u64,
+) -> Result<String, AllocError> {
+    match kind {
+        4 | 5 | 6 | 7 | 8 | 22 => format!(in alloc; "7{}{}", offset % 8, size % 8),
+        11 | 12 | 13 | 14 | 15 => path(alloc, dice),
+        16 | 17 => format!(in alloc; "{offset} {size}"),
+        19 | 20 => format!(in alloc; "{offset} xyz{size}"),
+        23 => String::from_str(alloc, "- -"),
+        24 => format!(in alloc; "{offset}.{size} now"),
+        _ => format!(in alloc; "{offset} "),
+    }
+}
+
 /// The words of a random call, none on links.
 fn call(alloc: Global, dice: &mut Dice) -> Result<String, AllocError> {
     let one = path(alloc, dice)?;
@@ -88,16 +106,7 @@ fn call(alloc: Global, dice: &mut Dice) -> Result<String, AllocError> {
     let size = dice.below(9);
     let kind = dice.below(25) as usize % 25;
     let name = NAMES[kind];
-    let rest = match kind {
-        4 | 5 | 6 | 7 | 8 => format!(in alloc; "7{}{}", offset % 8, size % 8)?,
-        11 | 12 | 13 | 14 | 15 => path(alloc, dice)?,
-        16 | 17 => format!(in alloc; "{offset} {size}")?,
-        19 | 20 => format!(in alloc; "{offset} xyz{size}")?,
-        22 => format!(in alloc; "7{}{}", offset % 8, size % 8)?,
-        23 => String::from_str(alloc, "- -")?,
-        24 => format!(in alloc; "{offset}.{size} now")?,
-        _ => format!(in alloc; "{offset} ")?,
-    };
+    let rest = rest_of(alloc, dice, kind, offset, size)?;
     format!(in alloc; "{name} {one} {rest}")
 }
 
@@ -133,22 +142,22 @@ pub fn call_of(alloc: Global, dice: &mut Dice, kinds: Kinds) -> Result<String, A
 }
 
 /// Checks that the folder answers the call as the tree does, and counts no failure.
-pub fn ask_both<D: Disk + Drop>(
+pub fn ask_both<A: Asked>(
     alloc: Global,
     tree: &mut MemTree,
-    folder: &mut Folder<D>,
+    folder: &mut A,
     words: &str,
 ) -> Result<(), Fail> {
     let wanted = ask(alloc, tree, words)?;
     expect(alloc, folder, words, wanted.as_str())?;
-    expect_count(folder.failures(), 0)
+    expect_count(folder.failed(), 0)
 }
 
 /// Makes so many random calls on both.
-fn ask_some<D: Disk + Drop>(
+fn ask_some<A: Asked>(
     alloc: Global,
     tree: &mut MemTree,
-    folder: &mut Folder<D>,
+    folder: &mut A,
     dice: &mut Dice,
     kinds: Kinds,
     count: u32,
@@ -161,16 +170,16 @@ fn ask_some<D: Disk + Drop>(
 }
 
 /// Makes so many random calls on an empty tree and on the folder, which is empty and shows these kinds.
-pub fn ask_many<D: Disk + Drop>(
+pub fn ask_many<A: Asked>(
     alloc: Global,
-    folder: &mut Folder<D>,
+    folder: &mut A,
     kinds: Kinds,
     count: u32,
 ) -> Result<(), Fail> {
     let mut tree = MemTree::new(alloc);
     let mut dice = Dice::new(20_251_122);
     ask_some(alloc, &mut tree, folder, &mut dice, kinds, count)?;
-    expect_count(tree.failures(), 0)
+    expect_count(tree.failed(), 0)
 }
 
 fn ask_at(
@@ -181,7 +190,7 @@ fn ask_at(
     count: u32,
 ) -> Result<(), Fail> {
     let mut opened = open_of(rt, root, capacity, kinds)?;
-    ask_many(rt.alloc(), &mut opened.folder, kinds, count)
+    ask_many(rt.alloc(), &mut opened, kinds, count)
 }
 
 // With room for all that there is, for little of it, and for nothing.
@@ -207,14 +216,7 @@ fn ask_slowly(alloc: Global, opened: &mut Opened) -> Result<(), Fail> {
     let mut tree = MemTree::new(alloc);
     let mut dice = Dice::new(20_261_127);
     for _ in 0..200 {
-        ask_some(
-            alloc,
-            &mut tree,
-            &mut opened.folder,
-            &mut dice,
-            opened.kinds,
-            10,
-        )?;
+        ask_some(alloc, &mut tree, opened, &mut dice, Kinds::All, 10)?;
         opened.watch.pass(600);
     }
     Ok(())

@@ -1,6 +1,6 @@
 //! What a real folder keeps open while others change it. A folder that was just opened keeps nothing but its root.
 
-use crate::asking::expect_count;
+use crate::asked::{Asked, expect_count};
 use crate::opening::{CAPACITY, Opened, open_with};
 use crate::sample_trees::sample_folder;
 use crate::telling::{Item, Step, tell};
@@ -264,7 +264,7 @@ fn ask_many(alloc: Global, opened: &mut Opened) -> Result<(), Fail> {
     for n in 100..400 {
         check_one(alloc, opened, 499 - n)?;
     }
-    expect_count(opened.failures(), 0)
+    expect_count(opened.failed(), 0)
 }
 
 fn ask_many_at(rt: &HostRuntime, root: &str, capacity: usize) -> Result<(), Fail> {

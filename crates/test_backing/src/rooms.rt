@@ -8,8 +8,8 @@ use std::test::Fail;
 
 /// Offers a buffer with room for so many bytes, in which something stands.
 fn offer(rt: &HostRuntime, opened: &mut Opened, len: usize) -> Result<(), Fail> {
-    let mut buffer = vec![in rt.alloc(); 0xa5u8; HEADER_ROOM.saturating_add(len)]?;
-    opened.offer_room(&mut buffer);
+    let buffer = vec![in rt.alloc(); 0xa5u8; HEADER_ROOM.saturating_add(len)]?;
+    opened.offer_room(buffer);
     Ok(())
 }
 

@@ -1,10 +1,11 @@
 //! Rows for the definition of the calls.
 
-use crate::asking::{expect_count, expect_rows, path_of};
-use crate::opening::{Opened, open};
+use crate::asked::{Asked, expect_count, expect_rows, expect_told};
+use crate::asking::path_of;
+use crate::opening::open;
 use crate::sample_trees::{sample_folder, sample_tree};
 use backing::{MemTree, PlannedFault, Shared};
-use std::alloc::Global;
+use std::alloc::{AllocError, Global};
 use std::fs;
 use std::sync::{Arc, Mutex, Wait};
 use std::test::Fail;
@@ -131,32 +132,23 @@ const GROUPS: [&[(&str, &str)]; 10] = [
 /// The rows on a memory tree, starting from the sample. No call fails.
 pub fn tell_tree(alloc: Global, rows: &[(&str, &str)]) -> Result<(), Fail> {
     let mut tree = sample_tree(alloc)?;
-    expect_rows(alloc, &mut tree, rows)?;
-    expect_count(tree.failures(), 0)
+    expect_told(alloc, &mut tree, rows, 0)
+}
+
+/// They are handed out by one function, since each one that names the rows is checked for all of them.
+fn groups() -> [&'static [(&'static str, &'static str)]; 10] {
+    GROUPS
 }
 
 #[test]
 fn rows_on_a_memory_tree(rt: HostRuntime) -> Result<(), Fail> {
-    for rows in GROUPS {
+    for rows in groups() {
         tell_tree(rt.alloc(), rows)?;
     }
     Ok(())
 }
 
-/// The rows on a real folder, by which so many calls are counted as failures.
-pub fn expect_told(
-    alloc: Global,
-    opened: &mut Opened,
-    rows: &[(&str, &str)],
-    failures: u64,
-) -> Result<(), Fail> {
-    for (words, wanted) in rows {
-        opened.expect(alloc, words, wanted)?;
-    }
-    expect_count(opened.failures(), failures)
-}
-
-/// The same on the one at that path.
+/// The rows on the real folder at that path, by which so many calls are counted as failures.
 pub fn tell_folder(
     rt: &HostRuntime,
     root: &str,
@@ -169,7 +161,7 @@ pub fn tell_folder(
 
 #[test]
 fn rows_on_a_real_folder(rt: HostRuntime) -> Result<(), Fail> {
-    for rows in GROUPS {
+    for rows in groups() {
         let root = sample_folder(&rt, "rows")?;
         tell_folder(&rt, root.as_str(), rows, 0)?;
         fs::remove_dir_all(&rt, root.as_str())?;
@@ -177,17 +169,25 @@ fn rows_on_a_real_folder(rt: HostRuntime) -> Result<(), Fail> {
     Ok(())
 }
 
+/// A handle to the tree.
+pub fn hold_of<H: Wait + Drop>(
+    alloc: Global,
+    rt: H,
+    tree: MemTree,
+) -> Result<Shared<H>, AllocError> {
+    let tree = Arc::new(alloc, Mutex::new(tree))?;
+    Ok(Shared::new(rt, tree))
+}
+
 /// The rows through a handle to a memory tree, starting from the sample. No call fails.
 pub fn tell_hold<H: Wait + Drop>(alloc: Global, rt: H, rows: &[(&str, &str)]) -> Result<(), Fail> {
-    let tree = Arc::new(alloc, Mutex::new(sample_tree(alloc)?))?;
-    let mut hold = Shared::new(rt, tree);
-    expect_rows(alloc, &mut hold, rows)?;
-    expect_count(hold.failures(), 0)
+    let mut hold = hold_of(alloc, rt, sample_tree(alloc)?)?;
+    expect_told(alloc, &mut hold, rows, 0)
 }
 
 #[test]
 fn rows_through_a_hold(rt: HostRuntime) -> Result<(), Fail> {
-    for rows in GROUPS {
+    for rows in groups() {
         tell_hold(rt.alloc(), rt, rows)?;
     }
     Ok(())
@@ -230,6 +230,18 @@ fn a_file_is_put_as_calls_would(rt: HostRuntime) -> Result<(), Fail> {
     expect_rows(alloc, &mut tree, rows)
 }
 
+/// The third call of the tree fails, which the second handle makes.
+fn see_both<A: Asked>(alloc: Global, one: &mut A, two: &mut A) -> Result<(), Fail> {
+    expect_rows(alloc, one, &[("mkdir m", "done")])?;
+    expect_told(
+        alloc,
+        two,
+        &[("stat m", "folder 0"), ("stat m", "fault 5")],
+        1,
+    )?;
+    expect_count(one.failed(), 0)
+}
+
 #[test]
 fn two_holds_see_one_tree(rt: HostRuntime) -> Result<(), Fail> {
     let alloc = rt.alloc();
@@ -238,12 +250,5 @@ fn two_holds_see_one_tree(rt: HostRuntime) -> Result<(), Fail> {
     let tree = Arc::new(alloc, Mutex::new(tree))?;
     let mut one = Shared::new(rt, Arc::try_clone(&tree)?);
     let mut two = Shared::new(rt, tree);
-    expect_rows(alloc, &mut one, &[("mkdir m", "done")])?;
-    expect_rows(
-        alloc,
-        &mut two,
-        &[("stat m", "folder 0"), ("stat m", "fault 5")],
-    )?;
-    expect_count(one.failures(), 0)?;
-    expect_count(two.failures(), 1)
+    see_both(alloc, &mut one, &mut two)
 }

@@ -19,12 +19,18 @@ pub fn sample_tree(alloc: Global) -> Result<MemTree, Fail> {
     Err(Fail::from("not all of the sample was put"))
 }
 
-/// The same sample on a disk in memory.
-pub fn sample_disk(alloc: Global) -> Result<MemoryDisk, Fail> {
-    let mut disk = MemoryDisk::new(alloc)?;
+/// Puts the sample on a disk that is lent, so that nothing drops it where this fails.
+fn put_sample(alloc: Global, disk: &mut MemoryDisk) -> Result<(), Fail> {
     disk.put_file(&path_of(alloc, "a")?, b"abc")?;
     disk.put_dir(&path_of(alloc, "d")?)?;
     disk.put_file(&path_of(alloc, "e")?, b"")?;
+    Ok(())
+}
+
+/// The same sample on a disk in memory.
+pub fn sample_disk(alloc: Global) -> Result<MemoryDisk, Fail> {
+    let mut disk = MemoryDisk::new(alloc)?;
+    put_sample(alloc, &mut disk)?;
     Ok(disk)
 }
 

@@ -1,6 +1,6 @@
 //! What a real folder tells by a STAT while others change it. Each path is asked for twice first: the second time its folder is open.
 
-use crate::asking::expect_count;
+use crate::asked::{Asked, expect_count};
 use crate::opening::{Opened, open};
 use crate::sample_trees::sample_folder;
 use crate::telling::{Item, Step, tell};
@@ -248,7 +248,7 @@ fn ask_many(alloc: Global, opened: &mut Opened) -> Result<(), Fail> {
     for n in 1001..1800 {
         check_one(alloc, opened, n, n - 1)?;
     }
-    expect_count(opened.failures(), 0)
+    expect_count(opened.failed(), 0)
 }
 
 fn ask_many_at(rt: HostRuntime, root: &str) -> Result<(), Fail> {

@@ -1,14 +1,15 @@
 //! What is neither a folder, a file nor a link. No call makes it, so it is put there.
 
-use crate::asking::{expect_count, expect_rows, path_of};
-use crate::memory::{InMemory, folder_of};
+use crate::asked::{expect_rows, expect_told};
+use crate::asking::path_of;
+use crate::memory::folder_of;
 use crate::opening::CAPACITY;
+use crate::rows::hold_of;
 use crate::sample_trees::{sample_disk, sample_tree};
-use backing::{MemTree, Shared};
+use backing::MemTree;
 use disk::{Content, MemoryDisk};
 use payload::Special;
 use std::alloc::Global;
-use std::sync::{Arc, Mutex};
 use std::test::Fail;
 
 /// What is put beside the sample.
@@ -89,29 +90,19 @@ fn disk_of_all(alloc: Global) -> Result<MemoryDisk, Fail> {
 fn specials_in_a_memory_tree(rt: HostRuntime) -> Result<(), Fail> {
     let alloc = rt.alloc();
     let mut tree = tree_of_all(alloc)?;
-    expect_rows(alloc, &mut tree, ROWS)?;
-    expect_count(tree.failures(), 0)
+    expect_told(alloc, &mut tree, ROWS, 0)
 }
 
 #[test]
 fn specials_through_a_hold(rt: HostRuntime) -> Result<(), Fail> {
-    let alloc = rt.alloc();
-    let tree = Arc::new(alloc, Mutex::new(tree_of_all(alloc)?))?;
-    let mut hold = Shared::new(rt, tree);
-    expect_rows(alloc, &mut hold, ROWS)?;
-    expect_count(hold.failures(), 0)
-}
-
-/// The rows on that folder, where no call fails.
-fn expect_in_memory(alloc: Global, folder: &mut InMemory) -> Result<(), Fail> {
-    expect_rows(alloc, folder, ROWS)?;
-    expect_count(folder.failures(), 0)
+    let mut hold = hold_of(rt.alloc(), rt, tree_of_all(rt.alloc())?)?;
+    expect_told(rt.alloc(), &mut hold, ROWS, 0)
 }
 
 #[test]
 fn specials_on_a_disk_in_memory(rt: HostRuntime) -> Result<(), Fail> {
     let mut folder = folder_of(&rt, disk_of_all(rt.alloc())?, CAPACITY)?;
-    expect_in_memory(rt.alloc(), &mut folder)
+    expect_told(rt.alloc(), &mut folder, ROWS, 0)
 }
 
 /// Where one cannot be put, and the error number.

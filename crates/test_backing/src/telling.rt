@@ -1,11 +1,12 @@
 //! Stories about a real folder: what others put into it, and what its calls answer. Each starts with a new sample
 //! folder.
 
-use crate::asking::{expect_count, path_of};
+use crate::asked::{Asked, expect_count};
+use crate::asking::path_of;
 use crate::opening::{CAPACITY, Opened, open_of};
 use crate::sample_trees::{place_of, sample_folder};
 use crate::watch::Trick;
-use backing::Answer;
+use backing::{Answer, Call};
 use payload::{Details, Time};
 use std::os::unix::fs::{MetadataExt, PermissionsExt, symlink};
 use std::os::unix::net::UnixListener;
@@ -99,7 +100,7 @@ pub fn details_at(rt: &HostRuntime, root: &str, name: &str) -> io::Result<Detail
 
 fn expect_same(rt: &HostRuntime, root: &str, opened: &mut Opened, name: &str) -> Result<(), Fail> {
     let path = path_of(rt.alloc(), name)?;
-    match opened.stat(&path) {
+    match opened.answer(Call::Stat(&path)) {
         Answer::Stat { details, .. } => {
             let wanted = details_at(rt, root, name)?;
             if details == wanted {
@@ -185,7 +186,7 @@ fn take(rt: &HostRuntime, root: &str, opened: &mut Opened, step: Step) -> Result
         }
         Step::Same(name) => expect_same(rt, root, opened, name)?,
         Step::Own(name) => expect_own(rt, root, opened, name)?,
-        Step::Failed(count) => expect_count(opened.failures(), count)?,
+        Step::Failed(count) => expect_count(opened.failed(), count)?,
     }
     Ok(())
 }
