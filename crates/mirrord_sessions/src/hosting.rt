@@ -64,6 +64,8 @@ fn serve_new<H: Wait, T: Ledgers, L: Link, C: Calls + Drop>(
     let session = Session::new(alloc, terms.settings);
     let end = serve(rt, session, link, &mut served, &mut table, &mut share);
     share.leave();
+    // This is a call so that this function is not checked for each part of a table.
+    drop(table);
     Finished {
         end,
         calls: served.calls,

@@ -13,6 +13,7 @@ mod runs;
 mod samples;
 mod socket;
 mod socket_file;
+mod told_folder;
 mod worker_folders;
 
 pub use device::serve_device;

@@ -1,13 +1,12 @@
 //! One folder of Linux for several threads: each has a folder of its own on the same root, and all share the files that are kept open.
 
-ghost use Rattle.std.specs.Prelude.{◌≡◌, ◌≢◌, IfErr, IfOk, replicate, vec_len};
+ghost use Rattle.std.specs.Prelude.{◌≡◌, ◌≢◌, ◌≤◌, [], IfErr, IfOk, replicate, vec_capacity, vec_len};
 ghost use Rattle.mirrord_sessions.specs.declared.folder.Unserved.TheVariants.{NoSocket};
 
 use crate::disks::{not_opened, not_started};
 use crate::folder::{Unserved, new_seed};
+use crate::told_folder::ToldFolder;
 use backing::{Answer, Call, Calls};
-use disk::Unknown;
-use disk_folder::Folder;
 use linux_disk::{LibC, Linux, OpenFd, SharedFiles, room_for_open};
 use std::marker::Model;
 use std::num::NonZeroUsize;
@@ -19,9 +18,15 @@ use terms::Settings;
 type HostDisk<H> = Linux<LibC, SharedFiles<OpenFd, H>>;
 
 /// A folder that another thread may use. Of its disk nothing is known.
-#[derive(Drop)]
 pub struct HostFolder<H: Wait + Clone + Drop> {
-    folder: Folder<Unknown<HostDisk<H>>>,
+    folder: ToldFolder<HostDisk<H>>,
+}
+
+impl<H: Wait + Clone + Drop> Drop for HostFolder<H> {
+    // This is a call so that code that drops a folder is not checked for each part of its disk.
+    fn drop(self) {
+        let HostFolder { folder: _ } = self;
+    }
 }
 
 impl<H: Wait + Clone + Drop> Model for HostFolder<H> {
@@ -29,7 +34,7 @@ impl<H: Wait + Clone + Drop> Model for HostFolder<H> {
 
     ghost Value = { ℕ };
 
-    ghost view = { λ f. f.folder.1 };
+    ghost view = { λ f. f.folder };
 }
 
 impl<H: Wait + Clone + Drop> Calls for HostFolder<H> {
@@ -100,10 +105,27 @@ fn open_next<H: Wait + RandomSource + Clone + Drop>(
         Ok(shared) => shared,
         Err(error) => return Err(not_opened(error)),
     };
-    match Folder::new(Unknown::new(shared), folders_kept(workers), seed) {
-        Ok(folder) => Ok(HostFolder { folder }),
-        Err(error) => Err(not_opened(error)),
+    let folder = ToldFolder::new(shared, folders_kept(workers), seed)?;
+    Ok(HostFolder { folder })
+}
+
+/// The same folder for each worker, in the vector, which has room for all of them.
+fn open_each<H: Wait + RandomSource + Clone + Drop>(
+    rt: &H,
+    first: &HostDisk<H>,
+    workers: u8,
+    mut folders: Vec<HostFolder<H>>,
+) -> Result<Vec<HostFolder<H>>, Unserved>
+    requires none { folders.items ≡ [] }
+    requires room { workers ≤ vec_capacity folders }
+    ensures unused { IfOk result (λ folders. folders.items ≡ replicate workers 0) }
+    ensures len { IfOk result (λ folders. vec_len folders ≡ workers) }
+    ensures why { IfErr result (λ why. why ≢ NoSocket) }
+{
+    for opened in 0..workers {
+        folders.push_reserved(open_next(rt, first, workers)?);
     }
+    Ok(folders)
 }
 
 /// A folder for each worker, all on the same root, of which the kinds of files and the names of these settings
@@ -118,12 +140,9 @@ pub fn open_folders<H: Wait + RandomSource + AllocGlobal + Clone + Drop>(
     ensures len { IfOk result (λ folders. vec_len folders ≡ workers) }
     ensures why { IfErr result (λ why. why ≢ NoSocket) }
 {
-    let Ok(mut folders) = Vec::with_capacity(rt.alloc(), usize::from(workers)) else {
+    let Ok(folders) = Vec::with_capacity(rt.alloc(), usize::from(workers)) else {
         return Err(Unserved::Memory);
     };
     let first = open_first(rt, root, settings)?;
-    for opened in 0..workers {
-        folders.push_reserved(open_next(rt, &first, workers)?);
-    }
-    Ok(folders)
+    open_each(rt, &first, workers, folders)
 }
