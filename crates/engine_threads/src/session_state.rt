@@ -25,11 +25,13 @@ pub struct Signs {
     pub queued: AtomicU64,
     /// How many jobs were worked on.
     pub worked: AtomicU64,
-    /// How often recent receives found that a request had been waiting: each that does adds four, each other one
+    /// How often recent receives found that a request had been waiting: each that does adds one, each other one
     /// subtracts one.
     pub backlog: AtomicU64,
-    /// Whether jobs take long: few were worked on while a thread watched, although there were some.
-    pub is_slow: AtomicBool,
+    /// How often in a row a thread that watched found that jobs take long: each time that it did not subtracts one.
+    pub slow_looks: AtomicU64,
+    /// Whether a thread leads: it goes on where one thread is enough.
+    pub is_led: AtomicBool,
 }
 
 /// If fewer jobs than this are worked on in the millisecond of a watching thread, they are few.
@@ -39,8 +41,15 @@ const FEW: u64 = 16;
 /// two that wait for each other.
 const MANY: u64 = 48;
 
-/// Above this value, which is reached if more than one receive in five finds a request waiting, more threads should
-/// receive.
+/// If so many looks more found that jobs take long than did not, they do. A single look is no sign: a client that
+/// pauses, or a thread whose processor was taken away, also makes a millisecond with few jobs.
+const SLOW: u64 = 3;
+
+/// The maximum of that count.
+const MOST_SLOW: u64 = 6;
+
+/// Above this value, which is reached if more than half of the receives find a request waiting, more threads should
+/// receive. A client that asks for one thing after another also makes requests that it does not wait for, as RELEASE.
 const BACKLOG: u64 = 16;
 
 /// The maximum of that count.
@@ -57,7 +66,8 @@ impl Signs {
             queued: AtomicU64::new(0),
             worked: AtomicU64::new(0),
             backlog: AtomicU64::new(0),
-            is_slow: AtomicBool::new(false),
+            slow_looks: AtomicU64::new(0),
+            is_led: AtomicBool::new(false),
         }
     }
 
@@ -97,8 +107,13 @@ impl Signs {
 
     /// Notes whether jobs take long, after a thread has watched; `before` is how many were worked on before that.
     pub fn tell_watched(&self, before: u64) {
-        let is_slow = self.is_busy() && self.worked().wrapping_sub(before) < FEW;
-        self.is_slow.store(is_slow, Ordering::SeqCst);
+        let looks = self.slow_looks.load(Ordering::SeqCst);
+        let after = if self.is_busy() && self.worked().wrapping_sub(before) < FEW {
+            looks.saturating_add(1).min(MOST_SLOW)
+        } else {
+            looks.saturating_sub(1)
+        };
+        self.slow_looks.store(after, Ordering::SeqCst);
     }
 
     /// Whether a thread that has watched should look what is to be done; `before` is how many jobs were worked on before
@@ -111,11 +126,12 @@ impl Signs {
         is_crowded || self.is_slow() || self.receives.load(Ordering::SeqCst) == seen
     }
 
-    /// Notes whether the request of a receive had been waiting. Receives are made one after another.
+    /// Notes whether the request of a receive had been waiting: each that had adds one, each other one subtracts one. Receives
+    /// are made one after another.
     pub fn tell_backlog(&self, was_waiting: bool) {
         let before = self.backlog.load(Ordering::SeqCst);
         let after = if was_waiting {
-            before.saturating_add(4).min(MOST_BACKLOG)
+            before.saturating_add(1).min(MOST_BACKLOG)
         } else {
             before.saturating_sub(1)
         };
@@ -129,7 +145,23 @@ impl Signs {
 
     /// Whether jobs take long.
     pub fn is_slow(&self) -> bool {
-        self.is_slow.load(Ordering::SeqCst)
+        self.slow_looks.load(Ordering::SeqCst) >= SLOW
+    }
+
+    /// Whether one thread is too few for what comes.
+    pub fn wants_more_threads(&self) -> bool {
+        self.is_slow() || self.has_backlog()
+    }
+
+    /// Whether the calling thread leads from now on, since none did.
+    pub fn take_lead(&self) -> bool {
+        // Threads ask often, and a load leaves the value where it is.
+        !self.is_led.load(Ordering::SeqCst) && !self.is_led.swap(true, Ordering::SeqCst)
+    }
+
+    /// The thread that leads does so no more.
+    pub fn give_lead(&self) {
+        self.is_led.store(false, Ordering::SeqCst);
     }
 }
 

@@ -23,6 +23,29 @@ use table_shared::{Opening, SharedTable};
 /// there: if all threads did, none would be left to offer replies.
 pub const JOINED: usize = 8;
 
+/// How a thread goes through its turns.
+#[derive(Drop)]
+pub struct Pace {
+    /// How many jobs it has worked on since it had the writer.
+    pub left: usize,
+    /// Whether it will sleep after it has offered what is ready.
+    pub is_leaving: bool,
+}
+
+impl Pace {
+    pub fn new() -> Pace {
+        Pace {
+            left: 0,
+            is_leaving: false,
+        }
+    }
+
+    /// At how many jobs since it had the writer it takes no more.
+    fn most(&self) -> usize {
+        if self.is_leaving { 0 } else { JOINED }
+    }
+}
+
 /// Locks the writer. A thread that must offer waits for the lock; others get it only if it is free.
 fn writer_of<
     'a,
@@ -73,9 +96,9 @@ fn offer<
     I: LinkIn + Drop,
     O: LinkOut + Drop,
     S: Source<I> + Sink<O>,
->(common: &Common<H, T, N, I, O, S>, spares: &mut SpareBuffers, left: &mut usize) -> bool {
+>(common: &Common<H, T, N, I, O, S>, spares: &mut SpareBuffers, pace: &mut Pace) -> bool {
     let signs = &common.signs;
-    let has_to = *left >= JOINED;
+    let has_to = pace.left >= JOINED;
     if !has_to && !signs.is_ready.load(Ordering::SeqCst) {
         return false;
     }
@@ -95,7 +118,7 @@ fn offer<
     if writer.writer.is_broken {
         signs.is_broken.store(true, Ordering::SeqCst);
     }
-    *left = 0;
+    pace.left = 0;
     is_any
 }
 
@@ -165,7 +188,7 @@ fn tell_read<
 }
 
 /// Offers what is ready, and works on some of the queued jobs, or, where nothing was ready or queued, makes one receive. Returns whether
-/// there was something to do. `left` is how many jobs this thread has worked on since it had the writer.
+/// there was something to do. A thread that is leaving offers what is ready, and no more.
 pub fn take_turns<
     'a,
     H: Wait + Drop,
@@ -181,7 +204,7 @@ pub fn take_turns<
     table_handle: &mut TableHandle<'a, H, T, N>,
     kept: &mut ThreadShare<T>,
     served: &mut Served<C, &Dirs>,
-    left: &mut usize,
+    pace: &mut Pace,
 ) -> bool
     requires none_back { worker.old.handed_back ≡ 0 }
     ensures queues { (receives_on worker.new.jobs ≡ receives_on worker.old.jobs) × (sends_on worker.new.replies ≡ sends_on worker.old.replies) × (worker.new.number ≡ worker.old.number) }
@@ -189,17 +212,17 @@ pub fn take_turns<
     ensures none_back { worker.new.handed_back ≡ 0 }
     ensures worked { WorksOn (does_shared C.gives) worker.old.session.settings worker.old.number (stand_of worker.old served.old.calls kept.old.share (on_table_of table_handle.old.thread_log)) (stand_of worker.new served.new.calls kept.new.share (on_table_of table_handle.new.thread_log)) }
 {
-    let mut is_busy = offer(common, &mut worker.spare_replies, left);
-    for _ in *left..JOINED {
+    let mut is_busy = offer(common, &mut worker.spare_replies, pace);
+    for _ in pace.left..pace.most() {
         match worker.turn(table_handle, &mut kept.share, served) {
             Turn::Worked(_settled) => {
                 wait_if_returned(&common.rt, worker);
                 common.signs.tell_worked();
-                *left = left.saturating_add(1);
+                pace.left = pace.left.saturating_add(1);
                 is_busy = true;
             }
             Turn::Nothing => break,
         }
     }
-    is_busy || read(common, worker.number as usize, &mut worker.spare_frames)
+    is_busy || pace.is_leaving || read(common, worker.number as usize, &mut worker.spare_frames)
 }

@@ -5,7 +5,7 @@ ghost use Rattle.std.specs.Prelude.{◌≡◌};
 use crate::origins::Workers;
 use crate::resting::Rest;
 use crate::session_state::Common;
-use crate::turns::take_turns;
+use crate::turns::{Pace, take_turns};
 use crate::worker_role::WorkerRole;
 use backing::Calls;
 use engine::{LinkIn, LinkOut, Served};
@@ -36,20 +36,20 @@ pub fn work<
     let number = worker.number as usize;
     let mut table_handle = TableHandle::new(&common.rt, &common.shared_table, thread_log);
     let mut rest = Rest::new(number);
-    let mut left = 0;
+    let mut pace = Pace::new();
     for _ in common.rt.forever() {
         // This is read before the turns: after the session is over nothing more comes.
         let is_over = common.signs.is_over();
-        rest.look(common);
+        rest.look(common, worker.taken);
         if take_turns(
             common,
             &mut worker,
             &mut table_handle,
             &mut kept,
             &mut served,
-            &mut left,
+            &mut pace,
         ) {
-            rest.rise(common);
+            rest.rise(common, worker.taken, &mut pace);
         } else if is_over {
             let Served { calls, dirs: _ } = served;
             return WorkerRole::again(worker, kept, table_handle.into_log(), calls);

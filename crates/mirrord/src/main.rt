@@ -2,9 +2,9 @@
 #![tactic(auto)]
 
 use mirrord_programs::{
-    Device, DeviceReplies, DeviceRequests, Failure, Fault, Standard, run, tell,
+    Device, DeviceReplies, DeviceRequests, Failure, Fault, LinuxDisks, RECEIVED, Standard, run,
+    tell,
 };
-use mirrord_server::{LinuxDisks, RECEIVED};
 use std::io::BufReader;
 use std::os::unix::fs::FileTypeExt;
 use std::process::ExitCode;

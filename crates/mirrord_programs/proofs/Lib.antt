@@ -1,1 +1,4 @@
 pub mod Ends
+pub mod Threads
+pub mod Devices
+pub mod Sockets

@@ -12,7 +12,7 @@ use Rattle.engine_streams.specs.declared.device.Device.{Device}
 use Rattle.mirrord_sessions.specs.Folders.{ServesDevice, ServesSocket}
 use Rattle.mirrord_sessions.specs.declared.folder.Unserved.{Unserved}
 use Rattle.terms.specs.declared.terms.Terms.{Terms}
-use Rattle.mirrord_server.specs.Workers.{ServesDeviceBy, ServesWorkers}
+use Rattle.mirrord_programs.specs.Workers.{ServesDeviceBy, ServesWorkers}
 use Rattle.mirrord_commands.specs.declared.faults.Failure.TheVariants.{NoDevice}
 use Rattle.mirrord_commands.specs.Faults.{status_of}
 use Rattle.mirrord_commands.specs.CommandLine.{mirrord_app, IsAsked}

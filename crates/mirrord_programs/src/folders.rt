@@ -6,12 +6,15 @@ ghost use Rattle.mirrord_sessions.specs.Ends.{exit_of, Tells};
 ghost use Rattle.mirrord_programs.specs.Runs.{RunsDevice, RunsServe, ServesBy, ServesKernel, outside};
 
 use crate::standing::lasting;
+use crate::workers_device::serve_device_by;
+use crate::workers_socket::serve_socket_by;
 use disk::Disk;
 use engine::SessionEnd;
 use engine_streams::{Device, ReadRequest, WriteReply};
 use mirrord_commands::Failure;
-use mirrord_server::{Disks, Terms, serve_device, serve_device_by, serve_socket, serve_socket_by};
-use mirrord_sessions::{Unserved, failure_after, status_after, tell_any};
+use mirrord_sessions::{
+    Disks, Terms, Unserved, failure_after, serve_device, serve_socket, status_after, tell_any,
+};
 use std::fs::File;
 use std::io::Write;
 use std::net::Net;

@@ -5,6 +5,9 @@ mod folders;
 mod runs;
 mod standard;
 mod standing;
+mod workers;
+mod workers_device;
+mod workers_socket;
 
 pub use engine_streams::{Device, DeviceReplies, DeviceRequests};
 pub use folders::{FolderServed, RunEnd, Serving, device_run, serve_run};
@@ -12,7 +15,10 @@ pub use mirrord_commands::{
     DEFAULT_POSTINGS, Failure, Fault, Options, OptionsRefusal, read_options, tell,
 };
 pub use mirrord_sessions::{
-    Disks, HexLink, LinuxDisks, ProgramEnd, Streams, TreeServed, hex_run, new_tree, pipe_run,
+    Disks, HexLink, LinuxDisks, ProgramEnd, RECEIVED, Streams, TreeServed, hex_run, new_tree,
+    pipe_run,
 };
 pub use runs::run;
 pub use standard::Standard;
+pub use workers_device::serve_device_by;
+pub use workers_socket::serve_socket_by;

@@ -9,8 +9,9 @@ use crate::standard::Standard;
 use disk::Disk;
 use engine_streams::{ReadRequest, WriteReply};
 use mirrord_commands::{Options, read_options};
-use mirrord_server::Disks;
-use mirrord_sessions::{ProgramEnd, Streams, TreeServed, explain, pipe_run, refuse, run_hex};
+use mirrord_sessions::{
+    Disks, ProgramEnd, Streams, TreeServed, explain, pipe_run, refuse, run_hex,
+};
 use std::convert::AsStr;
 use std::fs::File;
 use std::io::{BufRead, Write};

@@ -2,7 +2,7 @@
 
 use clap::error::ErrorKind;
 use mirrord_programs::{Options, read_options};
-use mirrord_server::{Bounds, Terms, Unserved};
+use mirrord_sessions::{Bounds, Terms, Unserved};
 use std::alloc::Global;
 use std::test::Fail;
 use table::Counts;

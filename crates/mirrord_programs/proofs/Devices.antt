@@ -8,7 +8,7 @@ use Rattle.engine_streams.specs.Device.{Got, OnDevice, Receives, Sends, unused}
 use Rattle.engine_streams.specs.declared.device.DeviceFault.{DeviceFault}
 use Rattle.engine_streams.specs.declared.device.NoDevice.{NoDevice}
 use Rattle.engine_threads.specs.Served.{behaviours}
-use Rattle.mirrord_server.specs.Workers.{ServesDeviceBy, ServesDeviceWith, ServesFolders}
+use Rattle.mirrord_programs.specs.Workers.{ServesDeviceBy, ServesDeviceWith, ServesFolders}
 use Rattle.mirrord_sessions.specs.declared.folder.Unserved.{Unserved}
 use Rattle.terms.specs.declared.terms.Terms.{Terms}
 

@@ -1,7 +1,7 @@
 //! Serving a folder of the system over the kernel's FUSE device with several threads.
 
 ghost use Rattle.std.specs.Prelude.{vec_len};
-ghost use Rattle.mirrord_server.specs.Workers.{ServesDeviceBy, ServesDeviceWith};
+ghost use Rattle.mirrord_programs.specs.Workers.{ServesDeviceBy, ServesDeviceWith};
 
 use crate::workers::serve_workers;
 use backing::Calls;

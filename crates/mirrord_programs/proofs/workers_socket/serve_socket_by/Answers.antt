@@ -1,5 +1,5 @@
-use Rattle.mirrord_server.proofs.Sockets.{served_new}
-use Rattle.mirrord_server.proofs.socket.serve_socket_by.Goals as goal
+use Rattle.mirrord_programs.proofs.Sockets.{served_new}
+use Rattle.mirrord_programs.proofs.workers_socket.serve_socket_by.Goals as goal
 
 pub returns : goal.returns
 returns g c =

@@ -1,7 +1,7 @@
 //! Serving a folder of the system over a Unix socket with several threads.
 
 ghost use Rattle.std.specs.Prelude.{◌≡◌, vec_len};
-ghost use Rattle.mirrord_server.specs.Workers.{from_socket, to_socket, ServesSocketWith, ServesWorkers};
+ghost use Rattle.mirrord_programs.specs.Workers.{from_socket, to_socket, ServesSocketWith, ServesWorkers};
 
 use crate::workers::serve_workers;
 use backing::Calls;

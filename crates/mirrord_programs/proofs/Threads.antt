@@ -8,7 +8,7 @@ use Rattle.engine_threads.specs.Served.{served_with, Behaviours, Endpoints, HasS
 use Rattle.engine_threads.specs.declared.ended.Account.{Account}
 use Rattle.engine_threads.specs.declared.given.Given.{Given}
 use Rattle.terms.specs.Limits.{limits_of}
-use Rattle.mirrord_server.specs.Workers.{ServesFolders}
+use Rattle.mirrord_programs.specs.Workers.{ServesFolders}
 use Rattle.terms.specs.declared.terms.Terms.{Terms}
 
 -- what a session is served with, or what came back

@@ -1,5 +1,5 @@
-use Rattle.mirrord_server.proofs.Devices.{served_new}
-use Rattle.mirrord_server.proofs.device.serve_device_by.Goals as goal
+use Rattle.mirrord_programs.proofs.Devices.{served_new}
+use Rattle.mirrord_programs.proofs.workers_device.serve_device_by.Goals as goal
 
 pub returns : goal.returns
 returns g c =

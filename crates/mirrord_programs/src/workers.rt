@@ -2,7 +2,7 @@
 
 ghost use Rattle.std.specs.Prelude.{vec_len};
 ghost use Rattle.engine_threads.specs.Served.{behaviours};
-ghost use Rattle.mirrord_server.specs.Workers.{ServesFolders};
+ghost use Rattle.mirrord_programs.specs.Workers.{ServesFolders};
 
 use backing::Calls;
 use engine::{LinkIn, LinkOut, SessionEnd};

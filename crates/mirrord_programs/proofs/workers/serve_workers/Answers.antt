@@ -2,8 +2,8 @@ use Rattle.std.proofs.Common.{List, IfSome, subst, vec_len}
 use Rattle.table_shared.specs.Histories.{Made}
 use Rattle.terms.specs.declared.limits.Limits.{Limits}
 use Rattle.engine_threads.specs.Served.{behaviours, served_with, HasServed}
-use Rattle.mirrord_server.proofs.Threads.{endpoints_of, served_by}
-use Rattle.mirrord_server.proofs.workers.serve_workers.Goals as goal
+use Rattle.mirrord_programs.proofs.Threads.{endpoints_of, served_by}
+use Rattle.mirrord_programs.proofs.workers.serve_workers.Goals as goal
 
 pub returns : goal.returns
 returns g c =

@@ -6,7 +6,7 @@ use Rattle.disk_folder.specs.Explained.{Tells}
 use Rattle.engine.specs.declared.ends.SessionEnd.{SessionEnd}
 use Rattle.engine_streams.specs.Streams.{Streaming, Receives, Sends}
 use Rattle.engine_threads.specs.Served.{behaviours}
-use Rattle.mirrord_server.specs.Workers.{from_socket, to_socket, ServesFolders, ServesSocketWith, ServesWorkers}
+use Rattle.mirrord_programs.specs.Workers.{from_socket, to_socket, ServesFolders, ServesSocketWith, ServesWorkers}
 use Rattle.mirrord_sessions.specs.declared.folder.Unserved.{Unserved}
 use Rattle.terms.specs.declared.terms.Terms.{Terms}
 

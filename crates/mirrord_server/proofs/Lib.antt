@@ -1,3 +1,0 @@
-pub mod Threads
-pub mod Devices
-pub mod Sockets
