@@ -214,6 +214,10 @@ pub fn take_turns<
 {
     let mut is_busy = offer(common, &mut worker.spare_replies, pace);
     for _ in pace.left..pace.most() {
+        // Asking the queue in vain costs more. A thread that has queued a job and not counted it yet works on it itself.
+        if !common.signs.is_busy() {
+            break;
+        }
         match worker.turn(table_handle, &mut kept.share, served) {
             Turn::Worked(_settled) => {
                 wait_if_returned(&common.rt, worker);
