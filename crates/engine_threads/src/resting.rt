@@ -193,9 +193,11 @@ fn watch<
     for _ in common.rt.forever() {
         let before = common.signs.worked();
         let seen = common.signs.receives.load(Ordering::SeqCst);
-        let is_woken = common.sleepers.nap(&common.rt, number);
+        if common.sleepers.nap(&common.rt, number) {
+            break;
+        }
         common.signs.tell_watched(before);
-        if is_woken || common.signs.is_over() || common.signs.is_look_due(before, seen) {
+        if common.signs.is_over() || common.signs.is_look_due(before, seen) {
             break;
         }
         // A wake-up that was lost just before this costs a millisecond.

@@ -28,8 +28,10 @@ pub struct Signs {
     /// How often recent receives found that a request had been waiting: each that does adds one, each other one
     /// subtracts one.
     pub backlog: AtomicU64,
-    /// How often in a row a thread that watched found that jobs take long: each time that it did not subtracts one.
+    /// How often a thread that watched found that jobs take long: each time that it did not subtracts one.
     pub slow_looks: AtomicU64,
+    /// How many jobs were worked on when a thread last found that.
+    pub judged: AtomicU64,
     /// Whether a thread leads: it goes on where one thread is enough.
     pub is_led: AtomicBool,
 }
@@ -47,6 +49,10 @@ const SLOW: u64 = 3;
 
 /// The maximum of that count.
 const MOST_SLOW: u64 = 6;
+
+/// After so many jobs that nobody watched it is no longer known that jobs take long. If they do, that is found again
+/// within some milliseconds.
+const UNWATCHED: u64 = 4096;
 
 /// Above this value, which is reached if more than half of the receives find a request waiting, more threads should
 /// receive. A client that asks for one thing after another also makes requests that it does not wait for, as RELEASE.
@@ -67,6 +73,7 @@ impl Signs {
             worked: AtomicU64::new(0),
             backlog: AtomicU64::new(0),
             slow_looks: AtomicU64::new(0),
+            judged: AtomicU64::new(0),
             is_led: AtomicBool::new(false),
         }
     }
@@ -105,15 +112,30 @@ impl Signs {
         self.queued.load(Ordering::SeqCst) != self.worked()
     }
 
-    /// Notes whether jobs take long, after a thread has watched; `before` is how many were worked on before that.
+    /// Notes whether jobs take long, after a thread has watched for a whole millisecond; `before` is how many were worked
+    /// on before that.
     pub fn tell_watched(&self, before: u64) {
+        let worked = self.worked();
         let looks = self.slow_looks.load(Ordering::SeqCst);
-        let after = if self.is_busy() && self.worked().wrapping_sub(before) < FEW {
+        let after = if self.is_busy() && worked.wrapping_sub(before) < FEW {
+            self.judged.store(worked, Ordering::SeqCst);
             looks.saturating_add(1).min(MOST_SLOW)
         } else {
             looks.saturating_sub(1)
         };
         self.slow_looks.store(after, Ordering::SeqCst);
+    }
+
+    /// How many more threads what was just queued gives work to, if jobs take long. A thread that is alone with one job
+    /// needs no other.
+    pub fn wanted_for(&self, queued: u64) -> u64 {
+        let worked = self.worked();
+        if worked.wrapping_sub(self.judged.load(Ordering::SeqCst)) > UNWATCHED {
+            self.slow_looks.store(0, Ordering::SeqCst);
+            return 0;
+        }
+        let waiting = self.queued.load(Ordering::SeqCst).wrapping_sub(worked);
+        queued.min(waiting.saturating_sub(1))
     }
 
     /// Whether a thread that has watched should look what is to be done; `before` is how many jobs were worked on before

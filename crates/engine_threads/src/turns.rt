@@ -162,10 +162,10 @@ fn read<
     true
 }
 
-/// Wakes the threads that may have something to do after a receive: all of them if the session has ended; one for each
-/// job if jobs take long; otherwise one if something came and no thread would look by itself. Short jobs are handled by
-/// the thread that read them, without a wake-up; if one takes long, the watching thread takes over within a
-/// millisecond.
+/// Wakes the threads that may have something to do after a receive: all of them if the session has ended; if jobs take
+/// long, one for each job that this thread cannot begin at once; and one if something came and no thread would look by
+/// itself. Short jobs are handled by the thread that read them, without a wake-up; if one takes long, the watching thread
+/// takes over within a millisecond.
 fn tell_read<
     H: Drop,
     T: Ledgers,
@@ -181,8 +181,9 @@ fn tell_read<
     }
     common.signs.tell_received(queued);
     if common.signs.is_slow() {
-        common.sleepers.wake(queued);
-    } else if queued > 0 {
+        common.sleepers.wake(common.signs.wanted_for(queued));
+    }
+    if queued > 0 {
         common.sleepers.call_watch();
     }
 }
