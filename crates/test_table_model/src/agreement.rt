@@ -1,21 +1,22 @@
 //! Comparing both tables.
 
-use crate::list_table::{Bearer, ListFile, ListNode, ListRequest, ListTable, Posted, ROOT};
+use crate::list_table::{Bearer, ListFile, ListNode, ListRequest, ListTable, ROOT};
 use crate::pairs::Pairs;
 use crate::words::{Way, add_once};
-use ledger::Posting;
 use paths::{Name, Path};
 use std::alloc::AllocError;
-use table::{Counts, Given};
+use table::Given;
+use table_files::OpenEntry;
 use table_image::{Image, ImageStage, Record};
 use tree::{Node, Place};
 
 fn node_of(image: &Image, number: u64) -> Option<&Node> {
-    image
-        .nodes
-        .as_slice()
-        .iter()
-        .find(|node| node.number == number)
+    for node in image.nodes.as_slice() {
+        if node.number == number {
+            return Some(node);
+        }
+    }
+    None
 }
 
 /// The parent of the node with that number, if it has that name.
@@ -38,91 +39,34 @@ fn stands_at(image: &Image, number: u64, path: &Path) -> bool {
     number == ROOT
 }
 
-/// The posting as the list table has it, for that number and generation. The list table has no periods.
-fn posted(posting: Posting, bearer: Bearer) -> Option<Posted> {
-    match posting {
-        Posting::Born { .. } => Some(Posted::Born(bearer)),
-        Posting::Entry { .. } => Some(Posted::Entry(bearer)),
-        Posting::Back { .. } => Some(Posted::Back(bearer)),
-        Posting::Forget { amount, .. } => Some(Posted::Forget(bearer, amount)),
-        Posting::Opening { .. } => None,
+fn add_all(held: &mut Vec<Way>, ways: &[Way]) -> Result<(), AllocError> {
+    for way in ways {
+        add_once(held, way.copy()?)?;
     }
+    Ok(())
 }
 
-fn bearer_of(posting: Posting) -> Bearer {
-    match posting {
-        Posting::Born { number, generation }
-        | Posting::Entry { number, generation }
-        | Posting::Back { number, generation }
-        | Posting::Forget {
-            number,
-            generation,
-            amount: _,
-        }
-        | Posting::Opening {
-            number,
-            generation,
-            count: _,
-        } => (number, generation),
-    }
-}
-
-/// All paths that are held, each once.
-fn held_ways(list: &ListTable) -> Result<Vec<Way>, AllocError> {
-    let mut held = Vec::new(list.alloc);
-    for request in list.requests.iter().filter(|request| request.working) {
-        for way in request
-            .plan
-            .shared
-            .iter()
-            .chain(request.plan.exclusive.iter())
-        {
-            add_once(&mut held, way.copy()?)?;
+/// Adds all paths that are held, each once.
+fn add_held(held: &mut Vec<Way>, list: &ListTable) -> Result<(), AllocError> {
+    for request in &list.requests {
+        if request.working {
+            add_all(held, request.plan.shared.as_slice())?;
+            add_all(held, request.plan.exclusive.as_slice())?;
         }
     }
-    Ok(held)
+    Ok(())
 }
 
 fn holds(image: &Image, path: &Path, numbers: (u64, u64)) -> bool {
-    image.holds.as_slice().iter().any(|hold| hold.path.is(path)
-        && (hold.shared, hold.exclusive) == numbers)
+    for hold in image.holds.as_slice() {
+        if (hold.shared, hold.exclusive) == numbers && hold.path.is(path) {
+            return true;
+        }
+    }
+    false
 }
 
 impl Pairs {
-    /// Whether the two postings are the same. If they are births, their numbers are a pair from now on.
-    fn take_posting(&mut self, list: Posted, other: Posting) -> Result<bool, AllocError> {
-        let bearer = bearer_of(other);
-        if let Posted::Born(born) = list {
-            self.add(born, bearer)?;
-        }
-        Ok(posted(other, list.bearer()) == Some(list) && self.are(list.bearer(), bearer))
-    }
-
-    /// Whether the postings after those compared before are the same: they are the last ones of the other table, which
-    /// has periods. If its counts are bounded no period has ended; otherwise a period stays within its limit.
-    pub fn take_postings(
-        &mut self,
-        list: &ListTable,
-        image: &Image,
-        seen: usize,
-    ) -> Result<bool, AllocError> {
-        let others = image.postings.as_slice();
-        let more = list.postings.len().saturating_sub(seen);
-        let Some(before) = others.len().checked_sub(more) else {
-            return Ok(false);
-        };
-        let (new, news) = (list.postings.iter().skip(seen), others.iter().skip(before));
-        for (posting, other) in new.zip(news) {
-            if !self.take_posting(*posting, *other)? {
-                return Ok(false);
-            }
-        }
-        match list.limits.counts {
-            Counts::Bounded => Ok(before == seen),
-            Counts::Free => Ok(others.len() as u64 <= list.limits.postings),
-        }
-    }
-
     /// Whether the node is the same in both tables: its pair, its mark and its count.
     fn same_node(&self, list: &ListTable, node: &ListNode, other: &Node) -> bool {
         self.are(node.bearer(), (other.number, other.generation))
@@ -165,29 +109,51 @@ impl Pairs {
         Ok(list.nodes.len() == image.nodes.as_slice().len())
     }
 
-    /// Whether the same paths are held, by the same number of requests.
-    fn same_holds(&self, list: &ListTable, image: &Image) -> Result<bool, AllocError> {
-        let held = held_ways(list)?;
-        for way in &held {
-            if !holds(image, &self.path(way)?, list.holds_on(way)) {
+    fn has_hold(&self, list: &ListTable, image: &Image, way: &Way) -> Result<bool, AllocError> {
+        let path = self.path(way)?;
+        Ok(holds(image, &path, list.holds_on(way)))
+    }
+
+    /// Whether these are the held paths, each held by the same number of requests in both tables.
+    fn are_held(&self, list: &ListTable, image: &Image, held: &[Way]) -> Result<bool, AllocError> {
+        for way in held {
+            if !self.has_hold(list, image, way)? {
                 return Ok(false);
             }
         }
         Ok(held.len() == image.holds.as_slice().len())
     }
 
+    /// Whether the same paths are held, by the same number of requests.
+    fn same_holds(&self, list: &ListTable, image: &Image) -> Result<bool, AllocError> {
+        let mut held = Vec::new(list.alloc);
+        add_held(&mut held, list)?;
+        self.are_held(list, image, held.as_slice())
+    }
+
+    fn is_file(&self, file: ListFile, other: &OpenEntry) -> bool {
+        other.handle == file.handle
+            && other.file.access == file.access
+            && self.are(file.bearer, (other.file.number, other.file.generation))
+    }
+
     fn has_file(&self, file: ListFile, image: &Image) -> bool {
-        image.files.as_slice().iter().any(|other| {
-            other.handle == file.handle
-                && other.file.access == file.access
-                && self.are(file.bearer, (other.file.number, other.file.generation))
-        })
+        for other in image.files.as_slice() {
+            if self.is_file(file, other) {
+                return true;
+            }
+        }
+        false
     }
 
     /// Whether the same files are open.
     fn same_files(&self, list: &ListTable, image: &Image) -> bool {
-        list.files.iter().all(|file| self.has_file(*file, image))
-            && list.files.len() == image.files.as_slice().len()
+        for file in &list.files {
+            if !self.has_file(*file, image) {
+                return false;
+            }
+        }
+        list.files.len() == image.files.as_slice().len()
     }
 
     /// The other table's number of a living node.
@@ -196,36 +162,60 @@ impl Pairs {
         Some(other)
     }
 
-    /// Whether a request pins the same nodes, in any order.
-    fn same_pins(&self, list: &ListTable, request: &ListRequest, record: &Record) -> bool {
-        let pins = record.pins.as_slice();
-        let mut own = request.pins.iter();
-        let mut others = pins.iter();
-        own.all(|pin| match self.number(list, *pin) {
-            Some(number) => pins.contains(&number),
-            None => false,
-        }) && others.all(|number| {
-            request
-                .pins
-                .iter()
-                .any(|pin| self.number(list, *pin) == Some(*number))
-        })
+    /// Whether each of these pins of the list table is among those of the other table.
+    fn pins_all(&self, list: &ListTable, own: &[u64], others: &[u64]) -> bool {
+        for pin in own {
+            match self.number(list, *pin) {
+                Some(number) if others.contains(&number) => {}
+                _ => return false,
+            }
+        }
+        true
+    }
+
+    /// Whether one of these pins of the list table is that number of the other table.
+    fn pins(&self, list: &ListTable, own: &[u64], number: u64) -> bool {
+        for pin in own {
+            if self.number(list, *pin) == Some(number) {
+                return true;
+            }
+        }
+        false
+    }
+
+    /// Whether both pin the same nodes, in any order.
+    fn same_pins(&self, list: &ListTable, own: &[u64], others: &[u64]) -> bool {
+        for number in others {
+            if !self.pins(list, own, *number) {
+                return false;
+            }
+        }
+        self.pins_all(list, own, others)
+    }
+
+    fn is_request(&self, list: &ListTable, request: &ListRequest, record: &Record) -> bool {
+        record.unique == request.unique
+            && (record.stage == ImageStage::Working) == request.working
+            && self.same_pins(list, request.pins.as_slice(), record.pins.as_slice())
     }
 
     fn has_request(&self, list: &ListTable, request: &ListRequest, image: &Image) -> bool {
-        image.records.as_slice().iter().any(|record| {
-            record.unique == request.unique
-                && (record.stage == ImageStage::Working) == request.working
-                && self.same_pins(list, request, record)
-        })
+        for record in image.records.as_slice() {
+            if self.is_request(list, request, record) {
+                return true;
+            }
+        }
+        false
     }
 
     /// Whether the same requests are in flight.
     fn same_requests(&self, list: &ListTable, image: &Image) -> bool {
-        list.requests
-            .iter()
-            .all(|request| self.has_request(list, request, image))
-            && list.requests.len() == image.records.as_slice().len()
+        for request in &list.requests {
+            if !self.has_request(list, request, image) {
+                return false;
+            }
+        }
+        list.requests.len() == image.records.as_slice().len()
     }
 
     /// What differs between the two tables, if anything.
@@ -252,13 +242,22 @@ impl Pairs {
         Ok(None)
     }
 
-    /// Whether both gave the same for each name.
-    pub fn same_given(&self, listed: &[Option<Bearer>], given: &[Option<Given>]) -> bool {
-        let same = listed.iter().zip(given).all(|(list, other)| match (*list, *other) {
+    /// Whether both gave the same for a name.
+    fn is_given(&self, list: Option<Bearer>, other: Option<Given>) -> bool {
+        match (list, other) {
             (Some(bearer), Some(node)) => self.are(bearer, (node.number, node.generation)),
             (None, None) => true,
             _ => false,
-        });
-        same && listed.len() == given.len()
+        }
+    }
+
+    /// Whether both gave the same for each name.
+    pub fn same_given(&self, listed: &[Option<Bearer>], given: &[Option<Given>]) -> bool {
+        for (list, other) in listed.iter().zip(given) {
+            if !self.is_given(*list, *other) {
+                return false;
+            }
+        }
+        listed.len() == given.len()
     }
 }

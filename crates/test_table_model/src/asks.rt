@@ -4,7 +4,7 @@ use crate::words::Word;
 use table::{Access, Need};
 
 /// Up to three names, for a page.
-#[derive(Clone, Copy, Debug, PartialEq, Eq)]
+#[derive(Clone, Copy)]
 pub struct Batch {
     pub first: Word,
     pub second: Word,
@@ -25,7 +25,7 @@ impl Batch {
 }
 
 /// Up to four findings.
-#[derive(Clone, Copy, Debug, PartialEq, Eq)]
+#[derive(Clone, Copy)]
 pub struct Findings {
     pub first: bool,
     pub second: bool,
@@ -47,7 +47,7 @@ impl Findings {
 }
 
 /// What a request begins with.
-#[derive(Clone, Copy, Debug, PartialEq, Eq)]
+#[derive(Clone, Copy)]
 pub enum Ask {
     /// A node, and the handle through which it is used and for what, if any.
     Node(u64, Option<(u64, Need)>),
@@ -74,7 +74,7 @@ pub enum Ask {
 }
 
 /// The outcome of a request.
-#[derive(Clone, Copy, Debug, PartialEq, Eq)]
+#[derive(Clone, Copy)]
 pub enum End {
     Failed,
     Done,
@@ -86,7 +86,7 @@ pub enum End {
 }
 
 /// A call on a table. A ticket or an answer is given by its index among those pending.
-#[derive(Clone, Copy, Debug, PartialEq, Eq)]
+#[derive(Clone, Copy)]
 pub enum Step {
     Begin(Ask),
     Finish(usize, End),
@@ -97,7 +97,7 @@ pub enum Step {
 }
 
 /// The result of a call, without its paths and the nodes that it gave.
-#[derive(Clone, Copy, Debug, PartialEq, Eq)]
+#[derive(Clone, Copy, PartialEq, Eq)]
 pub enum Told {
     Go {
         same: bool,
@@ -118,4 +118,30 @@ pub enum Told {
     Amount(u64),
     /// There is no such ticket or answer.
     Nothing,
+}
+
+impl Told {
+    /// The same for a message: what came, and its numbers.
+    pub fn row(self) -> (&'static str, u64, u64) {
+        match self {
+            Told::Go { same, hide, last } => {
+                ("go", same as u64, 2 * (hide as u64) + (last as u64))
+            }
+            Told::Busy => ("busy", 0, 0),
+            Told::Refused(errno) => ("refused", errno.unsigned_abs() as u64, 0),
+            Told::Ended {
+                names,
+                opened,
+                lost: false,
+            } => ("ended", names as u64, opened.unwrap_or(0)),
+            Told::Ended {
+                names,
+                opened,
+                lost: true,
+            } => ("lost", names as u64, opened.unwrap_or(0)),
+            Told::Settled { entries, taken } => ("settled", entries, taken as u64),
+            Told::Amount(amount) => ("amount", amount, 0),
+            Told::Nothing => ("nothing", 0, 0),
+        }
+    }
 }

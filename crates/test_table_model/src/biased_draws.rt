@@ -16,8 +16,12 @@ fn plain_place(table: &ListTable, node: &ListNode) -> Option<(u64, Word)> {
 
 /// The place of a hidden node.
 fn hidden_place(table: &ListTable) -> Option<(u64, Word)> {
-    let node = table.nodes.iter().find(|node| node.hidden)?;
-    table.place_of(node)
+    for node in &table.nodes {
+        if node.hidden {
+            return table.place_of(node);
+        }
+    }
+    None
 }
 
 /// The place of the node of an open file, if it has no mark.

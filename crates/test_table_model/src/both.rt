@@ -1,11 +1,11 @@
 //! Both tables in use, with the tickets and answers of the one under test that were not used up yet.
 
-use crate::asks::{End, Findings, Step, Told};
-use crate::list_table::ListTable;
-use crate::pairs::Pairs;
-use ledger::{Ledgers, Share};
+use crate::asks::{Ask, End, Findings, Step, Told};
+use crate::known::Known;
+use crate::under_test::UnderTest;
+use ledger::Totals;
 use std::alloc::{AllocError, Global};
-use table::{Answered, Begin, FoundNames, Outcome, Settled, Table, Ticket, Want};
+use table::{Answered, Begin, FoundNames, Outcome, Settled, Ticket};
 
 /// A ticket, and the id of the request in the list table.
 pub struct Begun {
@@ -20,24 +20,17 @@ pub struct Ended {
 }
 
 /// Both tables.
-pub struct Both<T: Ledgers> {
-    pub alloc: Global,
-    pub list: ListTable,
-    pub pairs: Pairs,
-    pub table: Table<T>,
-    /// The share that is passed to each finish, and the one that is passed to all other calls.
-    pub share: Share<T>,
-    pub other: Share<T>,
+pub struct Both<U: UnderTest> {
+    pub known: Known,
+    pub other: U,
     pub tickets: Vec<Begun>,
     /// The ids of these tickets.
     pub working: Vec<u64>,
     pub answers: Vec<Ended>,
-    /// How many postings were compared.
-    pub seen: usize,
 }
 
 /// The results of a call: that of the list table, and that of the other.
-#[derive(Clone, Copy, Debug, PartialEq, Eq)]
+#[derive(Clone, Copy)]
 pub struct Answers {
     pub list: Told,
     pub other: Told,
@@ -98,37 +91,41 @@ fn told_by_settle(settled: &Settled, id: u64) -> Told {
     }
 }
 
-impl<T: Ledgers> Both<T> {
-    /// Begins the request in the other table.
-    fn begin_other(&mut self, unique: u64, want: Want) -> Result<Told, AllocError> {
+impl<U: UnderTest> Both<U> {
+    /// Whether memory is refused is asked last, when nothing is left that would have to be dropped then.
+    fn begin(&mut self, unique: u64, ask: Ask) -> Result<Answers, AllocError> {
         self.tickets.reserve(1)?;
         self.working.reserve(1)?;
-        match self.table.begin(unique, want) {
+        let want = self.known.want(ask)?;
+        let list = self.known.list.begin(unique, ask);
+        let other = match self.other.begin(unique, want) {
             Begin::Go(ticket) => {
                 let told = told_by_ticket(&ticket);
-                let id = self.list.last_id;
+                let id = self.known.list.last_id;
                 self.tickets.push_reserved(Begun { id, ticket });
                 self.working.push_reserved(id);
-                Ok(told)
+                told
             }
-            Begin::Busy => Ok(Told::Busy),
-            Begin::Refused(errno) => Ok(Told::Refused(errno)),
-        }
+            Begin::Busy => Told::Busy,
+            Begin::Refused(errno) => Told::Refused(errno),
+        };
+        Ok(Answers { list: list?, other })
     }
 
+    /// As for a begin.
     fn finish(&mut self, place: usize, end: End) -> Result<Answers, AllocError> {
         if place >= self.tickets.len() || place >= self.working.len() {
             return Ok(Answers::NOTHING);
         }
-        let outcome = outcome_of(self.alloc, end)?;
         self.answers.reserve(1)?;
+        let outcome = outcome_of(self.known.list.alloc, end)?;
         let id = self.working.remove(place);
-        let list = self.list.finish(id, end)?;
+        let list = self.known.list.finish(id, end);
         let Begun { id, ticket } = self.tickets.remove(place);
-        let answered = self.table.finish(&mut self.share, ticket, outcome);
+        let answered = self.other.finish(ticket, outcome);
         let other = told_by_answer(&answered);
         self.answers.push_reserved(Ended { id, answered });
-        Ok(Answers { list, other })
+        Ok(Answers { list: list?, other })
     }
 
     fn settle(&mut self, place: usize, taken: bool) -> Result<Answers, AllocError> {
@@ -136,30 +133,25 @@ impl<T: Ledgers> Both<T> {
             Some(ended) => ended.id,
             None => return Ok(Answers::NOTHING),
         };
-        let list = self.list.settle(id, taken)?;
+        let list = self.known.list.settle(id, taken)?;
         let Ended { id: _, answered } = self.answers.remove(place);
         let id = answered.id();
-        let settled = self.table.settle(&mut self.other, answered, taken);
+        let settled = self.other.settle(answered, taken);
         let other = told_by_settle(&settled, id);
         Ok(Answers { list, other })
     }
 
     fn forget(&mut self, number: u64, n: u64) -> Result<Answers, AllocError> {
-        let theirs = self.number(number);
-        let list = self.list.forget(number, n)?;
-        let other = Told::Amount(self.table.forget(&mut self.other, theirs, n));
+        let theirs = self.known.number(number);
+        let list = self.known.list.forget(number, n)?;
+        let other = Told::Amount(self.other.forget(theirs, n));
         Ok(Answers { list, other })
     }
 
     /// Makes the step on both.
     pub fn call(&mut self, unique: u64, step: Step) -> Result<Answers, AllocError> {
         match step {
-            Step::Begin(ask) => {
-                let want = self.want(ask)?;
-                let list = self.list.begin(unique, ask)?;
-                let other = self.begin_other(unique, want)?;
-                Ok(Answers { list, other })
-            }
+            Step::Begin(ask) => self.begin(unique, ask),
             Step::Finish(place, end) => self.finish(place, end),
             Step::Settle(place, taken) => self.settle(place, taken),
             Step::Forget(number, n) => self.forget(number, n),
@@ -168,25 +160,46 @@ impl<T: Ledgers> Both<T> {
 
     /// Whether the last ticket has the paths that the list table's has.
     pub fn same_paths(&self) -> Result<bool, AllocError> {
-        match (self.tickets.last(), self.list.request(self.list.last_id)) {
-            (Some(begun), Some(request)) => {
-                self.pairs
-                    .are_paths(request.plan.ways.as_slice(), begun.ticket.paths())
-            }
-            _ => Ok(false),
+        match self.tickets.last() {
+            Some(begun) => self.known.same_paths(begun.ticket.paths()),
+            None => Ok(false),
         }
     }
 
     /// Whether the last answer has the nodes that the list table's has.
     pub fn same_given(&self) -> bool {
-        let Some(Ended { id, answered }) = self.answers.last() else {
-            return false;
-        };
-        match self.list.request(*id) {
-            Some(request) => self
-                .pairs
-                .same_given(request.listed.as_slice(), answered.given()),
+        match self.answers.last() {
+            Some(ended) => self.known.same_given(ended.id, ended.answered.given()),
             None => false,
         }
     }
+
+    /// Uses up everything that is pending, and gathers the shares.
+    pub fn end(self) -> Option<Totals> {
+        let Both {
+            known: _,
+            mut other,
+            tickets,
+            working: _,
+            answers,
+        } = self;
+        end_all(&mut other, tickets);
+        leave_all(answers);
+        other.gather()
+    }
+}
+
+/// Ends the work on each ticket without an entry.
+fn end_all<U: UnderTest>(table: &mut U, mut tickets: Vec<Begun>) {
+    while let Some(Begun { id: _, ticket }) = tickets.pop() {
+        table.finish(ticket, Outcome::Failed).leave();
+    }
+    tickets.destroy_empty();
+}
+
+fn leave_all(mut answers: Vec<Ended>) {
+    while let Some(Ended { id: _, answered }) = answers.pop() {
+        answered.leave();
+    }
+    answers.destroy_empty();
 }

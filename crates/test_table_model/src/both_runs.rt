@@ -3,21 +3,20 @@
 ghost use Rattle.std.specs.Prelude.{◌≡◌, ◌≤◌, ◌<◌, vec_len};
 
 use crate::asks::{Step, Told};
-use crate::both::{Answers, Begun, Both, Ended};
+use crate::both::{Answers, Both};
 use crate::draws::Draws;
-use crate::list_ledger::Sums;
-use crate::list_table::ListTable;
-use crate::pairs::Pairs;
+use crate::known::Known;
 use crate::tallies::{Came, Tallies};
-use ledger::{Blanks, Gather, Ledgers, Share};
-use std::alloc::{AllocError, AllocFailed, Global};
+use crate::under_test::{Shared, UnderTest};
+use ledger::{Blanks, Ledgers, Share};
+use std::alloc::{AllocError, Global};
 use std::marker::Brand;
 use std::random::RandomSource;
 use std::test::Fail;
-use table::{Counts, Limits, Outcome, Seeds, Table};
+use table::{Counts, Limits, Seeds, Table};
 
 /// The choice of steps.
-#[derive(Clone, Copy, PartialEq, Eq)]
+#[derive(Clone, Copy)]
 pub enum Manner {
     /// Any steps.
     Any,
@@ -39,132 +38,108 @@ pub struct Drive {
 /// How many times a run must have each expected result.
 const LEAST: usize = 5;
 
-impl<T: Ledgers> Both<T> {
+impl<U: UnderTest> Both<U> {
+    /// Both tables, new.
+    fn new(known: Known, other: U) -> Both<U> {
+        let alloc = known.list.alloc;
+        Both {
+            known,
+            other,
+            tickets: Vec::new(alloc),
+            working: Vec::new(alloc),
+            answers: Vec::new(alloc),
+        }
+    }
+
     fn draw(&self, manner: Manner, draws: &mut Draws) -> Step {
+        let answers = self.answers.len();
         match manner {
-            Manner::Any => draws.any_step(self.tickets.len(), self.answers.len()),
+            Manner::Any => draws.any_step(self.tickets.len(), answers),
             Manner::Biased => {
-                draws.biased_step(&self.list, self.working.as_slice(), self.answers.len())
+                draws.biased_step(&self.known.list, self.working.as_slice(), answers)
             }
         }
     }
 
+    /// What differs between the tables as they stand, if anything.
+    fn difference(&mut self) -> Result<Option<&'static str>, AllocError> {
+        let image = self.other.export()?;
+        self.known.difference(&image)
+    }
+
     /// What differs after a call, if anything.
-    fn difference(&mut self, answers: Answers) -> Result<Option<&'static str>, AllocError> {
+    fn differs(&mut self, answers: Answers) -> Result<Option<&'static str>, AllocError> {
         if answers.list != answers.other {
             return Ok(Some("answers"));
         }
-        let image = self.table.export()?;
-        if !self.pairs.take_postings(&self.list, &image, self.seen)? {
-            return Ok(Some("postings"));
+        if let Some(what) = self.difference()? {
+            return Ok(Some(what));
         }
-        self.seen = self.list.postings.len();
         match answers.list {
             Told::Go { .. } if !self.same_paths()? => Ok(Some("paths of the ticket")),
             Told::Ended { .. } if !self.same_given() => Ok(Some("nodes given")),
-            _ => self.pairs.difference(&self.list, &image),
+            _ => Ok(None),
         }
     }
 
     /// Makes the step with that index on both, and checks that they agree afterwards.
-    fn turn(&mut self, place: usize, step: Step) -> Result<Answers, Fail> {
+    fn turn(&mut self, place: usize, step: Step) -> Result<Told, Fail> {
         let answers = self.call(place as u64, step)?;
-        match self.difference(answers)? {
-            Some(what) => Err(Fail::from((what, place, step, answers))),
-            None => Ok(answers),
+        match self.differs(answers)? {
+            Some(what) => {
+                Err(Fail::from((what, place, answers.list.row(), answers.other.row())))
+            }
+            None => Ok(answers.list),
         }
     }
 
-    fn turns(&mut self, drive: Drive) -> Result<(), Fail> {
+    /// Makes the steps, and notes what came.
+    fn take(&mut self, drive: Drive, tallies: &mut Tallies) -> Result<(), Fail> {
         let mut draws = drive.draws;
-        let mut tallies = Tallies::new(self.alloc);
         for place in 0..drive.steps {
             let step = self.draw(drive.manner, &mut draws);
-            let answers = self.turn(place, step)?;
-            tallies.note(step, answers.list)?;
+            let told = self.turn(place, step)?;
+            tallies.note(step, told)?;
         }
+        Ok(())
+    }
+
+    fn turns(&mut self, drive: Drive) -> Result<(), Fail> {
+        let mut tallies = Tallies::new(self.known.list.alloc);
+        self.take(drive, &mut tallies)?;
         match tallies.too_few(drive.expected, LEAST) {
             Some(few) => Err(Fail::from(("too few", few))),
             None => Ok(()),
         }
     }
-
-    /// Uses up everything that is pending, and gathers the shares.
-    fn end(self) -> Option<Sums> {
-        let Both {
-            alloc,
-            list: _,
-            pairs: _,
-            mut table,
-            mut share,
-            other,
-            mut tickets,
-            working: _,
-            mut answers,
-            seen: _,
-        } = self;
-        while let Some(Begun { id: _, ticket }) = tickets.pop() {
-            table.finish(&mut share, ticket, Outcome::Failed).leave();
-        }
-        tickets.destroy_empty();
-        while let Some(Ended { id: _, answered }) = answers.pop() {
-            answered.leave();
-        }
-        answers.destroy_empty();
-        gathered(table, shares_of(alloc, share, other))
-    }
 }
 
-/// Both shares. If memory for one is refused, it is given up.
-fn shares_of<T: Ledgers>(alloc: Global, share: Share<T>, other: Share<T>) -> Vec<Share<T>> {
-    let mut shares = Vec::new(alloc);
-    if let Err(AllocFailed { value }) = shares.push(share) {
-        value.leave();
-    }
-    if let Err(AllocFailed { value }) = shares.push(other) {
-        value.leave();
-    }
-    shares
-}
-
-/// The totals of the shares, if none is missing.
-fn gathered<T: Ledgers>(table: Table<T>, shares: Vec<Share<T>>) -> Option<Sums> {
-    match table.gather(shares) {
-        Ok(totals) => Some(Sums {
-            born: totals.born,
-            entries: totals.entries,
-            backs: totals.backs,
-            forgotten: totals.forgotten,
-        }),
-        Err(Gather::ShareMissing) => None,
-    }
-}
-
-/// Both tables, new.
-fn both_of<T: Ledgers>(
-    list: ListTable,
-    pairs: Pairs,
-    table: Table<T>,
-    mut shares: Vec<Share<T>>,
-) -> Both<T>
+/// The table under test, new.
+fn shared<T: Ledgers>(alloc: Global, table: Table<T>, mut shares: Vec<Share<T>>) -> Shared<T>
     requires { vec_len shares ≡ 2 }
 {
-    let alloc = list.alloc;
     let share = shares.remove(0);
     let other = shares.remove(0);
     shares.destroy_empty();
-    Both {
+    Shared {
         alloc,
-        list,
-        pairs,
         table,
         share,
         other,
-        tickets: Vec::new(alloc),
-        working: Vec::new(alloc),
-        answers: Vec::new(alloc),
-        seen: 0,
     }
+}
+
+/// Makes the steps on both, which end in any case. The shares of the one add up to the postings of the other.
+fn drive_known<U: UnderTest>(known: Known, other: U, drive: Drive) -> Result<(), Fail> {
+    let mut both = Both::new(known, other);
+    let turned = both.turns(drive);
+    let sums = both.known.list.sums();
+    let gathered = both.end();
+    turned?;
+    if gathered != Some(sums) {
+        return Err(Fail::from(("gathers", sums, gathered)));
+    }
+    Ok(())
 }
 
 fn drive_on<T: Ledgers>(
@@ -178,18 +153,9 @@ fn drive_on<T: Ledgers>(
     requires names { blanks ≡ T.names }
     requires shares { T.names.parts ≡ 2 }
 {
-    let list = ListTable::open(alloc, drive.limits)?;
-    let pairs = Pairs::new(alloc, drive.draws.longest)?;
+    let known = Known::new(alloc, drive.limits, drive.draws.longest)?;
     let (table, shares) = Table::<T>::open(alloc, drive.limits, seeds, blanks, 2)?;
-    let mut both = both_of(list, pairs, table, shares);
-    let turned = both.turns(drive);
-    let sums = both.list.sums();
-    let gathered = both.end();
-    turned?;
-    if gathered != Some(sums) {
-        return Err(Fail::from(("gathers", sums, gathered)));
-    }
-    Ok(())
+    drive_known(known, shared(alloc, table, shares), drive)
 }
 
 /// Drives both from new tables. The shares of the one add up to the postings of the other.

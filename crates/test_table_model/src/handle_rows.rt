@@ -1,5 +1,6 @@
 //! Handles rise, and none is used twice.
 
+use std::alloc::{AllocError, Global};
 use std::test::Fail;
 use table_files::{Access, Files, Need, OpenFile};
 
@@ -21,9 +22,19 @@ fn counts(files: &Files) -> (u64, bool, usize, u64) {
     )
 }
 
-#[test]
-fn a_closed_handle_is_not_given_again(rt: HostRuntime) -> Result<(), Fail> {
-    let mut files = Files::new(rt.alloc());
+/// What came of opening a file twice, of closing the second handle twice, and of opening another file.
+#[derive(Drop)]
+struct Told {
+    handles: [u64; 3],
+    /// What each closing returned, and what stands under the last handle and the second.
+    files: [Option<OpenFile>; 4],
+    /// The counts after the first two openings, after the closing, and at the end.
+    counts: [(u64, bool, usize, u64); 3],
+}
+
+/// The results outlive the files, since otherwise each assertion would have to drop the files.
+fn tell(alloc: Global) -> Result<Told, AllocError> {
+    let mut files = Files::new(alloc);
     files.reserve(2)?;
     let first = files.open(file_of(2, Access::Reading));
     let second = files.open(file_of(2, Access::Both));
@@ -32,26 +43,45 @@ fn a_closed_handle_is_not_given_again(rt: HostRuntime) -> Result<(), Fail> {
     let left = counts(&files);
     files.reserve(1)?;
     let third = files.open(file_of(5, Access::Writing));
-    let found = [files.get(third), files.get(second)];
-    let last = counts(&files);
-    // The results outlive the files, since otherwise each assertion would have to drop the files.
-    drop(files);
-    assert_eq!(rt; [first, second, third], [1, 2, 3]);
-    assert_eq!(rt; closed, [Some(file_of(2, Access::Both)), None]);
-    assert_eq!(rt; found, [Some(file_of(5, Access::Writing)), None]);
-    assert_eq!(rt; opened, (2, true, 2, u64::MAX - 2));
-    assert_eq!(rt; left, (1, true, 1, u64::MAX - 2));
-    assert_eq!(rt; last, (1, true, 2, u64::MAX - 3));
-    Ok(())
+    Ok(Told {
+        handles: [first, second, third],
+        files: [closed[0], closed[1], files.get(third), files.get(second)],
+        counts: [opened, left, counts(&files)],
+    })
 }
 
 #[test]
-fn access_allows_what_is_needed(rt: HostRuntime) -> Result<(), Fail> {
-    assert!(rt; Access::Reading.allows(Need::Reading));
-    assert!(rt; !Access::Reading.allows(Need::Writing));
-    assert!(rt; Access::Writing.allows(Need::Writing));
-    assert!(rt; !Access::Writing.allows(Need::Reading));
-    assert!(rt; Access::Both.allows(Need::Writing));
-    assert!(rt; Access::Writing.allows(Need::Any));
+fn a_closed_handle_is_not_given_again(rt: HostRuntime) -> Result<(), Fail> {
+    let told = tell(rt.alloc())?;
+    let (both, writing) = (file_of(2, Access::Both), file_of(5, Access::Writing));
+    let files = [Some(both), None, Some(writing), None];
+    let counts = [
+        (2, true, 2, u64::MAX - 2),
+        (1, true, 1, u64::MAX - 2),
+        (1, true, 2, u64::MAX - 3),
+    ];
+    if told.handles != [1, 2, 3] || told.files != files || told.counts != counts {
+        return Err(Fail::from(("told otherwise", told.handles, told.counts)));
+    }
+    Ok(())
+}
+
+/// What a handle was opened for, what it is needed for, and whether it may be used.
+const ALLOWED: &[(Access, Need, bool)] = &[
+    (Access::Reading, Need::Reading, true),
+    (Access::Reading, Need::Writing, false),
+    (Access::Writing, Need::Writing, true),
+    (Access::Writing, Need::Reading, false),
+    (Access::Both, Need::Writing, true),
+    (Access::Writing, Need::Any, true),
+];
+
+#[test]
+fn access_allows_what_is_needed(_rt: HostRuntime) -> Result<(), Fail> {
+    for (place, (access, need, allowed)) in ALLOWED.iter().enumerate() {
+        if access.allows(*need) != *allowed {
+            return Err(Fail::from(("allowed otherwise", place)));
+        }
+    }
     Ok(())
 }

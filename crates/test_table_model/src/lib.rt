@@ -1,5 +1,7 @@
 //! The table is compared with one over plain lists: both are driven by the same calls. And the parts below it: paths, hidden names, the
 //! ledger and its book, the tree of nodes, open files, requests in flight and images. This crate has only tests.
+//!
+//! What looks through a list is a loop and no closure, since each closure is three more functions to check.
 #![tactic(auto)]
 
 #[cfg(test)]
@@ -18,6 +20,8 @@ mod draws;
 mod handle_rows;
 #[cfg(test)]
 mod image_rows;
+#[cfg(test)]
+mod known;
 #[cfg(test)]
 mod ledger_rows;
 #[cfg(test)]
@@ -47,6 +51,8 @@ mod path_rows;
 #[cfg(test)]
 mod pin_rows;
 #[cfg(test)]
+mod postings;
+#[cfg(test)]
 mod runs;
 #[cfg(test)]
 mod sketch;
@@ -56,6 +62,8 @@ mod spelling;
 mod tallies;
 #[cfg(test)]
 mod tree_rows;
+#[cfg(test)]
+mod under_test;
 #[cfg(test)]
 mod wants;
 #[cfg(test)]

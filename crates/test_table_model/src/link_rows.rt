@@ -7,7 +7,7 @@ use crate::asks::Told::{Busy, Refused};
 use crate::list_table::Posted::{Back, Born, Entry as Given};
 use crate::list_table::ROOT;
 use crate::list_teller::{
-    A, B, DEFAULT, E, EMPTY, ENDED, GO, Living, NAMED, Row, TAKEN, UNTAKEN, tell,
+    A, B, DEFAULT, E, EMPTY, ENDED, GO, Living, NAMED, Row, TAKEN, UNTAKEN, tell_all,
 };
 use crate::words::Word;
 use errno::{ENAMETOOLONG, ENFILE, ESTALE};
@@ -136,7 +136,5 @@ const LONG_PATHS: Row = Row {
 
 #[test]
 fn rows_of_links(rt: HostRuntime) -> Result<(), Fail> {
-    tell(rt.alloc(), 0, LINKS)?;
-    tell(rt.alloc(), 1, FEW_NODES)?;
-    tell(rt.alloc(), 2, LONG_PATHS)
+    tell_all(rt.alloc(), &[LINKS, FEW_NODES, LONG_PATHS])
 }

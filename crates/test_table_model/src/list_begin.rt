@@ -21,7 +21,12 @@ fn allows(access: Access, need: Need) -> bool {
 
 /// Whether one of the first paths is one of the second.
 fn meet(ways: &[Way], others: &[Way]) -> bool {
-    ways.iter().any(|way| is_among(way, others))
+    for way in ways {
+        if is_among(way, others) {
+            return true;
+        }
+    }
+    false
 }
 
 /// Whether what the first holds exclusively is held by the second.
@@ -53,6 +58,15 @@ fn astray(plan: &Plan) -> Option<i32> {
     } else {
         None
     }
+}
+
+fn is_one_too_long(ways: &[Way]) -> bool {
+    for way in ways {
+        if way.bytes() > LONGEST {
+            return true;
+        }
+    }
+    false
 }
 
 /// What all requests were promised.
@@ -95,9 +109,12 @@ impl ListTable {
 
     /// Whether another request in progress conflicts with it.
     fn is_busy(&self, plan: &Plan) -> bool {
-        self.requests
-            .iter()
-            .any(|request| request.working && conflict(&request.plan, plan))
+        for request in &self.requests {
+            if request.working && conflict(&request.plan, plan) {
+                return true;
+            }
+        }
+        false
     }
 
     /// What is promised to the requests in progress, and to one more.
@@ -121,7 +138,7 @@ impl ListTable {
         let nodes = (self.nodes.len() as u64).saturating_add(promised.births);
         let files = (self.files.len() as u64).saturating_add(promised.files);
         let before = match self.limits.counts {
-            Counts::Bounded => { (self.postings.len() as u64).saturating_add(self.sums().count()) }
+            Counts::Bounded => { (self.postings.len() as u64).saturating_add(self.counted()) }
             // A period that has just begun may have a posting for each node.
             Counts::Free => self.limits.nodes,
         };
@@ -134,7 +151,7 @@ impl ListTable {
 
     /// Why a request with that plan is refused, if it is.
     fn refusal(&self, plan: &Plan) -> Option<Told> {
-        if plan.ways.iter().any(|way| way.bytes() > LONGEST) {
+        if is_one_too_long(plan.ways.as_slice()) {
             return Some(Told::Refused(ENAMETOOLONG));
         }
         if let Some(errno) = astray(plan) {

@@ -1,21 +1,27 @@
 //! What the list table takes back and drops.
 
 use crate::asks::Told;
-use crate::list_table::{Bearer, ListNode, ListTable, Posted, ROOT};
+use crate::list_table::{Bearer, ListNode, ListRequest, ListTable, Posted, ROOT};
 use std::alloc::AllocError;
 
 impl ListTable {
     /// Closes the open file under the handle, if there is one.
     pub fn close(&mut self, handle: u64) {
-        if let Some(place) = self.files.iter().position(|file| file.handle == handle) {
-            let _file = self.files.remove(place);
+        for (place, file) in self.files.iter().enumerate() {
+            if file.handle == handle {
+                let _file = self.files.remove(place);
+                return;
+            }
         }
     }
 
     fn is_pinned(&self, number: u64) -> bool {
-        self.requests
-            .iter()
-            .any(|request| request.pins.as_slice().contains(&number))
+        for request in &self.requests {
+            if request.pins.as_slice().contains(&number) {
+                return true;
+            }
+        }
+        false
     }
 
     fn has_named_child(&self, node: &ListNode) -> bool {
@@ -35,13 +41,25 @@ impl ListTable {
             || self.count(node.bearer()) > 0
     }
 
+    /// The index of a node that nothing keeps alive, if there is one.
+    fn unneeded(&self) -> Option<usize> {
+        for (place, node) in self.nodes.iter().enumerate() {
+            if !self.has_reason(node) {
+                return Some(place);
+            }
+        }
+        None
+    }
+
     /// Drops what nothing keeps alive, until everything that is left has a reason.
     pub fn sweep(&mut self) {
         for _round in 0..self.nodes.len() {
-            let Some(place) = self.nodes.iter().position(|node| !self.has_reason(node)) else {
-                return;
-            };
-            let _node = self.nodes.remove(place);
+            match self.unneeded() {
+                Some(place) if place < self.nodes.len() => {
+                    let _node = self.nodes.remove(place);
+                }
+                _ => return,
+            }
         }
     }
 
@@ -70,21 +88,30 @@ impl ListTable {
         Ok(())
     }
 
+    /// The index of the request with that id, if it is in progress, or if it is not.
+    fn place_of_request(&self, id: u64, working: bool) -> Option<usize> {
+        for (place, request) in self.requests.iter().enumerate() {
+            if request.id == id && request.working == working {
+                return Some(place);
+            }
+        }
+        None
+    }
+
+    /// Takes that request out, if it is there.
+    pub fn take_out(&mut self, id: u64, working: bool) -> Option<ListRequest> {
+        match self.place_of_request(id, working) {
+            Some(place) if place < self.requests.len() => Some(self.requests.remove(place)),
+            _ => None,
+        }
+    }
+
     /// Ends the request with that id, which was answered.
     pub fn settle(&mut self, id: u64, taken: bool) -> Result<Told, AllocError> {
-        let place = self
-            .requests
-            .iter()
-            .position(|request| request.id == id && !request.working);
-        let Some(place) = place else {
+        let Some(request) = self.take_out(id, false) else {
             return Ok(Told::Settled { entries: 0, taken });
         };
-        let request = self.requests.remove(place);
-        let entries = request
-            .listed
-            .iter()
-            .filter(|given| given.is_some())
-            .count() as u64;
+        let entries = request.entries();
         if !taken {
             self.take_back(request.listed.as_slice(), request.opened)?;
         }

@@ -23,6 +23,16 @@ fn list_none(request: &mut ListRequest) -> Result<(), AllocError> {
     Ok(())
 }
 
+/// Pins what was given.
+fn pin_given(request: &mut ListRequest) -> Result<(), AllocError> {
+    for given in &request.listed {
+        if let Some((number, _)) = *given {
+            request.pins.push(number)?;
+        }
+    }
+    Ok(())
+}
+
 impl ListTable {
     /// A number above the root's that no living node has.
     fn free_number(&self) -> u64 {
@@ -50,8 +60,8 @@ impl ListTable {
 
     /// Gives an entry of the node at the path. If there is none, one is born.
     fn give(&mut self, way: &Way) -> Result<Bearer, AllocError> {
-        let bearer = match self.at(way).map(|node| node.bearer()) {
-            Some(bearer) => bearer,
+        let bearer = match self.at(way) {
+            Some(node) => node.bearer(),
             None => self.create(way)?,
         };
         self.postings.push(Posted::Entry(bearer))?;
@@ -59,10 +69,24 @@ impl ListTable {
     }
 
     fn is_held_alone(&self, way: &Way) -> bool {
-        self.requests.iter().any(|request| request.excludes(way))
+        for request in &self.requests {
+            if request.excludes(way) {
+                return true;
+            }
+        }
+        false
     }
 
-    /// Gives an entry for each name that was found and that no request holds exclusively.
+    /// Gives an entry for a name, if it was found and no request holds it exclusively.
+    fn give_found(&mut self, way: &Way, found: bool) -> Result<Option<Bearer>, AllocError> {
+        if found && !self.is_held_alone(way) {
+            Ok(Some(self.give(way)?))
+        } else {
+            Ok(None)
+        }
+    }
+
+    /// Gives what the names of a page are given.
     fn give_page(
         &mut self,
         request: &mut ListRequest,
@@ -71,12 +95,7 @@ impl ListTable {
         let ways = request.plan.ways.get(1..).unwrap_or(&[]);
         let all = findings.found();
         for (way, found) in ways.iter().zip(all.iter()) {
-            let given = if *found && !self.is_held_alone(way) {
-                Some(self.give(way)?)
-            } else {
-                None
-            };
-            request.listed.push(given)?;
+            request.listed.push(self.give_found(way, *found)?)?;
         }
         Ok(())
     }
@@ -99,13 +118,7 @@ impl ListTable {
         }
         self.cut(new);
         for node in self.nodes.iter_mut() {
-            let moved = match &node.way {
-                Some(way) if old.is_prefix_of(way) => Some(way.with_prefix(old, new)?),
-                _ => None,
-            };
-            if moved.is_some() {
-                node.way = moved;
-            }
+            let _moved = node.relocate(old, new)?;
         }
         Ok(())
     }
@@ -113,13 +126,8 @@ impl ListTable {
     /// Exchanges what is at the two paths or below.
     fn exchange(&mut self, one: &Way, two: &Way) -> Result<(), AllocError> {
         for node in self.nodes.iter_mut() {
-            let moved = match &node.way {
-                Some(way) if one.is_prefix_of(way) => Some(way.with_prefix(one, two)?),
-                Some(way) if two.is_prefix_of(way) => Some(way.with_prefix(two, one)?),
-                _ => None,
-            };
-            if moved.is_some() {
-                node.way = moved;
+            if !node.relocate(one, two)? {
+                let _moved = node.relocate(two, one)?;
             }
         }
         Ok(())
@@ -127,10 +135,13 @@ impl ListTable {
 
     /// Moves what is at the path to the candidate, and marks the node.
     fn hide(&mut self, way: &Way, candidate: &Way) -> Result<(), AllocError> {
-        let hidden = self.at(way).map(|node| node.number);
+        let Some(node) = self.at(way) else {
+            return self.relocate(way, candidate);
+        };
+        let number = node.number;
         self.relocate(way, candidate)?;
         for node in self.nodes.iter_mut() {
-            if Some(node.number) == hidden {
+            if node.number == number {
                 node.hidden = true;
             }
         }
@@ -167,37 +178,59 @@ impl ListTable {
         number: u64,
         access: Access,
     ) -> Result<(), AllocError> {
-        if let Some(bearer) = self.node(number).map(|node| node.bearer()) {
+        if let Some(node) = self.node(number) {
+            let bearer = node.bearer();
             request.opened = Some(self.open_file(bearer, access)?);
         }
         Ok(())
     }
 
-    /// Changes names.
-    fn change(&mut self, plan: &Plan, end: End) -> Result<(), AllocError> {
-        match (plan.ask, end, plan.ways.as_slice()) {
-            (Ask::Remove(..), End::Done, [way, ..]) => self.cut(way),
-            (Ask::Release(..), End::Done, [way, ..]) if plan.last => self.cut(way),
-            (Ask::Move(..) | Ask::Keep(..), End::Done, [source, target, ..]) => {
+    /// Changes names as the request asked for.
+    fn change(&mut self, plan: &Plan) -> Result<(), AllocError> {
+        match (plan.ask, plan.ways.as_slice()) {
+            (Ask::Remove(..), [way, ..]) => self.cut(way),
+            (Ask::Release(..), [way, ..]) if plan.last => self.cut(way),
+            (Ask::Move(..) | Ask::Keep(..), [source, target, ..]) => {
                 self.relocate(source, target)?;
             }
-            (Ask::Exchange(..), End::Done, [one, two, ..]) => self.exchange(one, two)?,
-            (Ask::Remove(..), End::Hidden(index), [way, ..]) => {
-                if let Some(candidate) = candidate(plan, index) {
-                    self.hide(way, candidate)?;
-                }
-            }
-            (Ask::Move(..), End::HiddenMove(index, moved), [source, target, ..]) => {
-                if let Some(candidate) = candidate(plan, index) {
-                    self.hide(target, candidate)?;
-                    if moved {
-                        self.relocate(source, target)?;
-                    }
-                }
-            }
+            (Ask::Exchange(..), [one, two, ..]) => self.exchange(one, two)?,
             _ => {}
         }
         Ok(())
+    }
+
+    /// Hides what is at the name that was to be removed.
+    fn hide_removed(&mut self, plan: &Plan, index: u8) -> Result<(), AllocError> {
+        match (plan.ask, plan.ways.as_slice(), candidate(plan, index)) {
+            (Ask::Remove(..), [way, ..], Some(candidate)) => self.hide(way, candidate),
+            _ => Ok(()),
+        }
+    }
+
+    /// Hides what is at the target of a move, which is then made, or is not.
+    fn hide_target(&mut self, plan: &Plan, index: u8, moved: bool) -> Result<(), AllocError> {
+        let (Ask::Move(..), [source, target, ..], Some(candidate)) = (
+            plan.ask,
+            plan.ways.as_slice(),
+            candidate(plan, index),
+        ) else {
+            return Ok(());
+        };
+        self.hide(target, candidate)?;
+        if moved {
+            self.relocate(source, target)?;
+        }
+        Ok(())
+    }
+
+    /// Changes names, if the outcome says so.
+    fn end_change(&mut self, plan: &Plan, end: End) -> Result<(), AllocError> {
+        match end {
+            End::Done => self.change(plan),
+            End::Hidden(index) => self.hide_removed(plan, index),
+            End::HiddenMove(index, moved) => self.hide_target(plan, index, moved),
+            End::Failed | End::Entry | End::Entries(_) => Ok(()),
+        }
     }
 
     /// Carries out the outcome, if it fits.
@@ -213,43 +246,34 @@ impl ListTable {
             (Ask::Name(..) | Ask::Create(..) | Ask::Link(..) | Ask::Page(..), _) => {
                 list_none(request)
             }
-            _ => self.change(&request.plan, end),
+            _ => self.end_change(&request.plan, end),
         }
     }
 
     /// Answers the request, which then also pins what it gave.
-    fn answer(&mut self, mut request: ListRequest) -> Result<Told, AllocError> {
-        for given in &request.listed {
-            if let Some((number, _)) = *given {
-                request.pins.push(number)?;
-            }
-        }
-        let told = Told::Ended {
+    fn answer(&mut self, request: &mut ListRequest, end: End) -> Result<Told, AllocError> {
+        self.act(request, end)?;
+        pin_given(request)?;
+        request.working = false;
+        Ok(Told::Ended {
             names: request.listed.len(),
             opened: request.opened,
             lost: false,
-        };
-        request.working = false;
-        self.requests.push(request)?;
-        self.sweep();
-        Ok(told)
+        })
     }
 
     /// Ends the work on the request with that id. What it gave is recorded with it.
     pub fn finish(&mut self, id: u64, end: End) -> Result<Told, AllocError> {
-        let place = self
-            .requests
-            .iter()
-            .position(|request| request.id == id && request.working);
-        let Some(place) = place else {
+        let Some(mut request) = self.take_out(id, true) else {
             return Ok(Told::Ended {
                 names: 0,
                 opened: None,
                 lost: true,
             });
         };
-        let mut request = self.requests.remove(place);
-        self.act(&mut request, end)?;
-        self.answer(request)
+        let told = self.answer(&mut request, end)?;
+        self.requests.push(request)?;
+        self.sweep();
+        Ok(told)
     }
 }

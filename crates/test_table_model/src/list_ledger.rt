@@ -1,51 +1,41 @@
 //! Sums over the ledger of the list table.
 
 use crate::list_table::{Bearer, ListTable, Posted};
+use ledger::Totals;
 
-/// The totals of a ledger.
-#[derive(Clone, Copy, Debug, PartialEq, Eq)]
-pub struct Sums {
-    pub born: u64,
-    pub entries: u64,
-    pub backs: u64,
-    pub forgotten: u64,
-}
-
-const NOTHING: Sums = Sums {
+const NOTHING: Totals = Totals {
     born: 0,
     entries: 0,
     backs: 0,
     forgotten: 0,
 };
 
-impl Sums {
-    /// With one more posting.
-    fn with(self, posting: Posted) -> Sums {
-        match posting {
-            Posted::Born(_) => Sums {
-                born: self.born.saturating_add(1),
-                ..self
-            },
-            Posted::Entry(_) => Sums {
-                entries: self.entries.saturating_add(1),
-                ..self
-            },
-            Posted::Back(_) => Sums {
-                backs: self.backs.saturating_add(1),
-                ..self
-            },
-            Posted::Forget(_, amount) => Sums {
-                forgotten: self.forgotten.saturating_add(amount),
-                ..self
-            },
-        }
+/// The totals with one more posting.
+fn with(sums: Totals, posting: Posted) -> Totals {
+    match posting {
+        Posted::Born(_) => Totals {
+            born: sums.born.saturating_add(1),
+            ..sums
+        },
+        Posted::Entry(_) => Totals {
+            entries: sums.entries.saturating_add(1),
+            ..sums
+        },
+        Posted::Back(_) => Totals {
+            backs: sums.backs.saturating_add(1),
+            ..sums
+        },
+        Posted::Forget(_, amount) => Totals {
+            forgotten: sums.forgotten.saturating_add(amount),
+            ..sums
+        },
     }
+}
 
-    /// The entries that were not given back or forgotten.
-    pub fn count(self) -> u64 {
-        self.entries
-            .saturating_sub(self.backs.saturating_add(self.forgotten))
-    }
+/// The entries that were not given back or forgotten.
+fn left(sums: Totals) -> u64 {
+    sums.entries
+        .saturating_sub(sums.backs.saturating_add(sums.forgotten))
 }
 
 impl Posted {
@@ -61,12 +51,17 @@ impl Posted {
 
 impl ListTable {
     /// The totals of all numbers.
-    pub fn sums(&self) -> Sums {
+    pub fn sums(&self) -> Totals {
         let mut sums = NOTHING;
         for posting in &self.postings {
-            sums = sums.with(*posting);
+            sums = with(sums, *posting);
         }
         sums
+    }
+
+    /// The entries of all numbers that were not given back or forgotten.
+    pub fn counted(&self) -> u64 {
+        left(self.sums())
     }
 
     /// The lookup count of a number and generation: the sum of its postings, from the last one back to its birth.
@@ -74,13 +69,13 @@ impl ListTable {
         let mut sums = NOTHING;
         for posting in self.postings.iter().rev() {
             if posting.bearer() == bearer {
-                sums = sums.with(*posting);
+                sums = with(sums, *posting);
             }
             if *posting == Posted::Born(bearer) {
                 break;
             }
         }
-        sums.count()
+        left(sums)
     }
 
     /// How often the number was born.

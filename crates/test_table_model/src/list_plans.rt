@@ -11,6 +11,14 @@ pub const LONGEST: usize = 4_096;
 /// How many candidates a file may be hidden under.
 const CANDIDATES: u32 = 10;
 
+/// Adds the path to those of the ticket and to those that are held exclusively.
+fn add_alone(plan: &mut Plan, way: Way) -> Result<(), AllocError> {
+    plan.exclusive.push(way.copy()?)?;
+    plan.ways.push(way)?;
+    Ok(())
+}
+
+// A plan is lent to what adds to it, so that nothing but the first function drops it where memory is refused.
 impl ListTable {
     /// A plan that needs nothing yet.
     fn empty_plan(&self, ask: Ask) -> Plan {
@@ -29,38 +37,45 @@ impl ListTable {
         }
     }
 
-    fn node_plan(&self, ask: Ask, number: u64, way: &Way) -> Result<Plan, AllocError> {
-        let mut plan = self.empty_plan(ask);
+    fn add_node(&self, plan: &mut Plan, number: u64, way: &Way) -> Result<(), AllocError> {
         plan.given.push(number)?;
         plan.ways.push(way.copy()?)?;
-        add_prefixes(&mut plan.shared, way)?;
-        Ok(plan)
+        add_prefixes(&mut plan.shared, way)
     }
 
     /// An entry is promised for the name, and a birth if it has no node.
-    fn name_plan(&self, ask: Ask, parent: u64, way: &Way, word: Word) -> Result<Plan, AllocError> {
-        let path = way.below(word)?;
-        let mut plan = self.node_plan(ask, parent, &path)?;
+    fn promise_entry(&self, plan: &mut Plan, path: &Way) {
         plan.entries = 1;
-        plan.births = if self.at(&path).is_some() { 0 } else { 1 };
-        Ok(plan)
+        plan.births = if self.at(path).is_some() { 0 } else { 1 };
     }
 
-    fn page_plan(
+    fn add_name(
         &self,
-        ask: Ask,
+        plan: &mut Plan,
+        parent: u64,
+        way: &Way,
+        word: Word,
+    ) -> Result<(), AllocError> {
+        let path = way.below(word)?;
+        self.promise_entry(plan, &path);
+        self.add_node(plan, parent, &path)
+    }
+
+    fn add_page(
+        &self,
+        plan: &mut Plan,
         folder: u64,
         way: &Way,
         batch: Batch,
-    ) -> Result<Plan, AllocError> {
-        let mut plan = self.node_plan(ask, folder, way)?;
+    ) -> Result<(), AllocError> {
+        self.add_node(plan, folder, way)?;
         let words = batch.words();
         for word in words.iter().take(batch.len()) {
             plan.ways.push(way.below(*word)?)?;
             plan.entries = plan.entries.saturating_add(1);
             plan.births = plan.births.saturating_add(1);
         }
-        Ok(plan)
+        Ok(())
     }
 
     /// The node at the path, if it has an open file.
@@ -73,14 +88,16 @@ impl ListTable {
         }
     }
 
-    /// Adds the candidates in the folder under which the file of the node may be hidden.
+    /// Adds the candidates in the folder under which the file of the node may be hidden, if there is one.
     fn add_candidates(
         &self,
         plan: &mut Plan,
-        bearer: Bearer,
+        hidden: Option<Bearer>,
         folder: &Way,
     ) -> Result<(), AllocError> {
-        let (number, generation) = bearer;
+        let Some((number, generation)) = hidden else {
+            return Ok(());
+        };
         plan.hide = true;
         for i in 0..CANDIDATES {
             let candidate = folder.below(Word::Hidden {
@@ -88,64 +105,62 @@ impl ListTable {
                 generation,
                 counter: self.counter.wrapping_add(i),
             })?;
-            plan.exclusive.push(candidate.copy()?)?;
-            plan.ways.push(candidate)?;
+            add_alone(plan, candidate)?;
         }
         Ok(())
     }
 
-    fn removal_plan(
+    fn add_removal(
         &self,
-        ask: Ask,
-        parent: u64,
-        way: &Way,
-        word: Word,
+        plan: &mut Plan,
+        (parent, way, word): (u64, &Way, Word),
         may_hide: bool,
-    ) -> Result<Plan, AllocError> {
+    ) -> Result<(), AllocError> {
         let path = way.below(word)?;
-        let mut plan = self.empty_plan(ask);
+        let hidden = if may_hide { self.open_at(&path) } else { None };
+        add_alone(plan, path)?;
         plan.given.push(parent)?;
-        plan.ways.push(path.copy()?)?;
-        plan.exclusive.push(path.copy()?)?;
         add_prefixes(&mut plan.shared, way)?;
-        if let Some(bearer) = self.open_at(&path)
-            && may_hide
-        {
-            self.add_candidates(&mut plan, bearer, way)?;
-        }
-        Ok(plan)
+        self.add_candidates(plan, hidden, way)
     }
 
-    /// Moving the one name to the other, each under its parent's path, or exchanging them. Only a move may hide, and
-    /// only if it need not keep what is at its target.
-    fn move_plan(
+    /// Adds both paths of a move or an exchange. The file at the target may be hidden only by a move that need not keep it: its node
+    /// is returned.
+    fn add_both(
         &self,
-        ask: Ask,
-        from: (u64, &Way, Word),
-        to: (u64, &Way, Word),
-    ) -> Result<Plan, AllocError> {
-        let ((parent, way, word), (new_parent, new_way, new_word)) = (from, to);
-        let (source, target) = (way.below(word)?, new_way.below(new_word)?);
-        let mut plan = self.empty_plan(ask);
+        plan: &mut Plan,
+        source: Way,
+        target: Way,
+    ) -> Result<Option<Bearer>, AllocError> {
+        plan.same = source.is(&target);
+        let hidden = if matches!(plan.ask, Ask::Move(..)) && !plan.same {
+            self.open_at(&target)
+        } else {
+            None
+        };
+        add_alone(plan, source)?;
+        if plan.same {
+            plan.ways.push(target)?;
+        } else {
+            add_alone(plan, target)?;
+        }
+        Ok(hidden)
+    }
+
+    /// Moving the one name to the other, each under its parent's path, or exchanging them.
+    fn add_move(
+        &self,
+        plan: &mut Plan,
+        (parent, way, word): (u64, &Way, Word),
+        (new_parent, new_way, new_word): (u64, &Way, Word),
+    ) -> Result<(), AllocError> {
         plan.given.push(parent)?;
         plan.given.push(new_parent)?;
         add_prefixes(&mut plan.shared, way)?;
         add_prefixes(&mut plan.shared, new_way)?;
-        plan.same = source.is(&target);
-        plan.ways.push(source.copy()?)?;
-        plan.ways.push(target.copy()?)?;
-        plan.exclusive.push(source)?;
-        if plan.same {
-            return Ok(plan);
-        }
-        let open = self.open_at(&target);
-        plan.exclusive.push(target)?;
-        if let Some(bearer) = open
-            && matches!(ask, Ask::Move(..))
-        {
-            self.add_candidates(&mut plan, bearer, new_way)?;
-        }
-        Ok(plan)
+        let source = way.below(word)?;
+        let hidden = self.add_both(plan, source, new_way.below(new_word)?)?;
+        self.add_candidates(plan, hidden, new_way)
     }
 
     /// Whether the file is the only open one of a hidden node.
@@ -158,134 +173,134 @@ impl ListTable {
     }
 
     /// What closing a file of a node with a name needs.
-    fn closing_plan(
+    fn add_closing(
         &self,
-        ask: Ask,
+        plan: &mut Plan,
         number: u64,
         way: &Way,
         last: bool,
-    ) -> Result<Plan, AllocError> {
+    ) -> Result<(), AllocError> {
         if !last {
-            return self.node_plan(ask, number, way);
+            return self.add_node(plan, number, way);
         }
-        let mut plan = self.empty_plan(ask);
         plan.last = true;
         plan.given.push(number)?;
-        plan.ways.push(way.copy()?)?;
-        plan.exclusive.push(way.copy()?)?;
-        add_prefixes(&mut plan.shared, &way.parent()?)?;
-        Ok(plan)
+        add_alone(plan, way.copy()?)?;
+        add_prefixes(&mut plan.shared, &way.parent()?)
     }
 
     /// A node that is cut, or whose path is too long, is not named, and nothing is held.
-    fn release_plan(&self, ask: Ask, number: u64, handle: u64) -> Result<Plan, AllocError> {
+    fn add_release(&self, plan: &mut Plan, number: u64, handle: u64) -> Result<(), AllocError> {
         let last = match self.file(handle) {
             Some(file) => self.is_last(file),
             None => false,
         };
         match self.way_of(number) {
-            Some(way) if way.bytes() <= LONGEST => self.closing_plan(ask, number, way, last),
-            _ => Ok(self.empty_plan(ask)),
+            Some(way) if way.bytes() <= LONGEST => self.add_closing(plan, number, way, last),
+            _ => Ok(()),
         }
-    }
-
-    fn open_plan(&self, ask: Ask, number: u64, way: &Way) -> Result<Plan, AllocError> {
-        let mut plan = self.node_plan(ask, number, way)?;
-        plan.files = 1;
-        Ok(plan)
-    }
-
-    /// What a LOOKUP is promised, and a file.
-    fn create_plan(
-        &self,
-        ask: Ask,
-        parent: u64,
-        way: &Way,
-        word: Word,
-    ) -> Result<Plan, AllocError> {
-        let mut plan = self.name_plan(ask, parent, way, word)?;
-        plan.files = 1;
-        Ok(plan)
     }
 
     /// What a node needs, and what a LOOKUP of the further name of its file needs.
-    fn link_plan(
+    fn add_link(
         &self,
-        ask: Ask,
-        old: (u64, &Way),
-        new: (u64, &Way, Word),
-    ) -> Result<Plan, AllocError> {
-        let ((number, way), (parent, new_way, word)) = (old, new);
-        let path = new_way.below(word)?;
-        let mut plan = self.node_plan(ask, number, way)?;
+        plan: &mut Plan,
+        (number, way): (u64, &Way),
+        (parent, new_way, word): (u64, &Way, Word),
+    ) -> Result<(), AllocError> {
+        self.add_node(plan, number, way)?;
         plan.given.push(parent)?;
+        let path = new_way.below(word)?;
+        self.promise_entry(plan, &path);
         add_prefixes(&mut plan.shared, &path)?;
-        plan.entries = 1;
-        plan.births = if self.at(&path).is_some() { 0 } else { 1 };
         plan.ways.push(path)?;
-        Ok(plan)
+        Ok(())
     }
 
     /// Both the node and the parent must be named.
-    fn plan_of_link(
+    fn needs_link(
         &self,
-        ask: Ask,
+        plan: &mut Plan,
         number: u64,
-        new: (u64, Word),
-    ) -> Result<Option<Plan>, AllocError> {
-        let (parent, word) = new;
+        (parent, word): (u64, Word),
+    ) -> Result<bool, AllocError> {
         let (Some(way), Some(new_way)) = (self.way_of(number), self.way_of(parent)) else {
-            return Ok(None);
+            return Ok(false);
         };
-        let plan = self.link_plan(ask, (number, way), (parent, new_way, word))?;
-        Ok(Some(plan))
+        self.add_link(plan, (number, way), (parent, new_way, word))?;
+        Ok(true)
     }
 
-    fn plan_of_move(
+    fn needs_move(
         &self,
-        ask: Ask,
-        old: (u64, Word),
-        new: (u64, Word),
-    ) -> Result<Option<Plan>, AllocError> {
-        let ((parent, word), (new_parent, new_word)) = (old, new);
+        plan: &mut Plan,
+        (parent, word): (u64, Word),
+        (new_parent, new_word): (u64, Word),
+    ) -> Result<bool, AllocError> {
         let (Some(way), Some(new_way)) = (self.way_of(parent), self.way_of(new_parent)) else {
-            return Ok(None);
+            return Ok(false);
         };
-        let plan = self.move_plan(ask, (parent, way, word), (new_parent, new_way, new_word))?;
-        Ok(Some(plan))
+        self.add_move(plan, (parent, way, word), (new_parent, new_way, new_word))?;
+        Ok(true)
     }
 
     /// What is needed for one node with a name.
-    fn plan_at(&self, ask: Ask, number: u64, way: &Way) -> Result<Plan, AllocError> {
-        match ask {
-            Ask::Name(_, word) => self.name_plan(ask, number, way, word),
-            Ask::Create(_, word, _) => self.create_plan(ask, number, way, word),
-            Ask::Page(_, batch) => self.page_plan(ask, number, way, batch),
-            Ask::Remove(_, word, may_hide) => self.removal_plan(ask, number, way, word, may_hide),
-            Ask::Open(..) => self.open_plan(ask, number, way),
-            _ => self.node_plan(ask, number, way),
+    fn add_at(&self, plan: &mut Plan, number: u64, way: &Way) -> Result<(), AllocError> {
+        match plan.ask {
+            Ask::Name(_, word) => self.add_name(plan, number, way, word),
+            Ask::Create(_, word, _) => {
+                plan.files = 1;
+                self.add_name(plan, number, way, word)
+            }
+            Ask::Page(_, batch) => self.add_page(plan, number, way, batch),
+            Ask::Remove(_, word, may_hide) => {
+                self.add_removal(plan, (number, way, word), may_hide)
+            }
+            Ask::Open(..) => {
+                plan.files = 1;
+                self.add_node(plan, number, way)
+            }
+            _ => self.add_node(plan, number, way),
         }
     }
 
-    /// What the request needs, or nothing if a number that it names is unknown or cut.
-    pub fn plan(&self, ask: Ask) -> Result<Option<Plan>, AllocError> {
-        match ask {
-            Ask::Release(number, handle) => Ok(Some(self.release_plan(ask, number, handle)?)),
+    fn needs_node(&self, plan: &mut Plan, number: u64) -> Result<bool, AllocError> {
+        let Some(way) = self.way_of(number) else {
+            return Ok(false);
+        };
+        self.add_at(plan, number, way)?;
+        Ok(true)
+    }
+
+    /// Adds what the request needs. False if a number that it names is unknown or cut.
+    fn needs(&self, plan: &mut Plan) -> Result<bool, AllocError> {
+        match plan.ask {
+            Ask::Release(number, handle) => {
+                self.add_release(plan, number, handle)?;
+                Ok(true)
+            }
             Ask::Move(parent, word, new_parent, new_word)
             | Ask::Keep(parent, word, new_parent, new_word)
             | Ask::Exchange(parent, word, new_parent, new_word) => {
-                self.plan_of_move(ask, (parent, word), (new_parent, new_word))
+                self.needs_move(plan, (parent, word), (new_parent, new_word))
             }
-            Ask::Link(number, parent, word) => self.plan_of_link(ask, number, (parent, word)),
+            Ask::Link(number, parent, word) => self.needs_link(plan, number, (parent, word)),
             Ask::Node(number, _)
             | Ask::Name(number, _)
             | Ask::Page(number, _)
             | Ask::Remove(number, _, _)
             | Ask::Open(number, _)
-            | Ask::Create(number, _, _) => match self.way_of(number) {
-                Some(way) => Ok(Some(self.plan_at(ask, number, way)?)),
-                None => Ok(None),
-            },
+            | Ask::Create(number, _, _) => self.needs_node(plan, number),
+        }
+    }
+
+    /// What the request needs, or nothing if a number that it names is unknown or cut.
+    pub fn plan(&self, ask: Ask) -> Result<Option<Plan>, AllocError> {
+        let mut plan = self.empty_plan(ask);
+        if self.needs(&mut plan)? {
+            Ok(Some(plan))
+        } else {
+            Ok(None)
         }
     }
 }

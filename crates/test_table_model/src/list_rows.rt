@@ -1,6 +1,6 @@
 //! Rows of the list table alone, worked out by hand from its rules.
 
-use crate::asks::Ask::{Create, Move, Name, Node, Open, Release, Remove};
+use crate::asks::Ask::{self, Create, Move, Name, Node, Open, Release, Remove};
 use crate::asks::End::{Done, Entry, Failed, Hidden, HiddenMove};
 use crate::asks::Step::{Begin, Finish, Forget, Settle};
 use crate::asks::Told::{Amount, Busy, Refused};
@@ -8,9 +8,11 @@ use crate::list_table::Posted::{Back, Born, Entry as Given, Forget as Forgotten}
 use crate::list_table::{ListTable, ROOT};
 use crate::list_teller::{
     A, B, DEFAULT, E, EMPTY, ENDED, GO, HIDDEN, HIDE, LAST, LOST, Living, NAMED, OPENED_FIRST,
-    OPENED_SECOND, Row, SAME, TAKEN, UNTAKEN, tell,
+    OPENED_SECOND, Row, SAME, TAKEN, UNTAKEN, tell_all,
 };
+use crate::words::{Way, Word};
 use errno::{EBADF, EINVAL, ENFILE, ENOTEMPTY, ESTALE};
+use std::alloc::AllocError;
 use std::test::Fail;
 use table::{Access, Limits};
 
@@ -220,26 +222,54 @@ const FEW_NODES: Row = Row {
 
 #[test]
 fn rows(rt: HostRuntime) -> Result<(), Fail> {
-    tell(rt.alloc(), 0, FORGET_ABOVE_COUNT)?;
-    tell(rt.alloc(), 1, UNTAKEN_ENTRIES)?;
-    tell(rt.alloc(), 2, MOVES)?;
-    tell(rt.alloc(), 3, HIDING)?;
-    tell(rt.alloc(), 4, HIDDEN_TARGET)?;
-    tell(rt.alloc(), 5, FEW_POSTINGS)?;
-    tell(rt.alloc(), 6, FEW_NODES)
+    tell_all(
+        rt.alloc(),
+        &[
+            FORGET_ABOVE_COUNT,
+            UNTAKEN_ENTRIES,
+            MOVES,
+            HIDING,
+            HIDDEN_TARGET,
+            FEW_POSTINGS,
+            FEW_NODES,
+        ],
+    )
+}
+
+/// Begins these requests.
+fn begin_all(table: &mut ListTable, asks: &[Ask]) -> Result<(), Fail> {
+    for ask in asks {
+        if table.begin(0, *ask)? != GO {
+            return Err(Fail::from("a request did not begin"));
+        }
+    }
+    Ok(())
+}
+
+/// How many requests share the path of the name in the root, and how many hold it exclusively.
+fn holds_of(table: &ListTable, word: Word) -> Result<(u64, u64), AllocError> {
+    let way = Way::of(table.alloc, &[word])?;
+    Ok(table.holds_on(&way))
 }
 
 /// Two requests share a path, and one holds another path exclusively.
+fn tell_holds(table: &mut ListTable) -> Result<[(u64, u64); 3], Fail> {
+    begin_all(
+        table,
+        &[Name(ROOT, A), Name(ROOT, A), Remove(ROOT, E, true)],
+    )?;
+    Ok([
+        holds_of(table, A)?,
+        holds_of(table, E)?,
+        holds_of(table, B)?,
+    ])
+}
+
 #[test]
 fn hold_numbers(rt: HostRuntime) -> Result<(), Fail> {
     let mut table = ListTable::open(rt.alloc(), DEFAULT)?;
-    for ask in [Name(ROOT, A), Name(ROOT, A), Remove(ROOT, E, true)] {
-        let told = table.begin(0, ask)?;
-        assert_eq!(rt; told, GO);
-    }
-    let root = table.way_of(ROOT).ok_or("the root has a path")?;
-    assert_eq!(rt; table.holds_on(&root.below(A)?), (2, 0));
-    assert_eq!(rt; table.holds_on(&root.below(E)?), (0, 1));
-    assert_eq!(rt; table.holds_on(&root.below(B)?), (0, 0));
+    let holds = tell_holds(&mut table)?;
+    drop(table);
+    assert_eq!(rt; holds, [(2, 0), (0, 1), (0, 0)]);
     Ok(())
 }

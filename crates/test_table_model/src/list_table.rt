@@ -53,10 +53,20 @@ impl ListNode {
             None => false,
         }
     }
+
+    /// Puts the new path in place of the old one, if the node's begins with that. Returns whether it does.
+    pub fn relocate(&mut self, old: &Way, new: &Way) -> Result<bool, AllocError> {
+        let moved = match &self.way {
+            Some(way) if old.is_prefix_of(way) => way.with_prefix(old, new)?,
+            _ => return Ok(false),
+        };
+        self.way = Some(moved);
+        Ok(true)
+    }
 }
 
 /// A posting, of a number and generation.
-#[derive(Clone, Copy, Debug, PartialEq, Eq)]
+#[derive(Clone, Copy, PartialEq, Eq)]
 pub enum Posted {
     Born(Bearer),
     Entry(Bearer),
@@ -65,7 +75,7 @@ pub enum Posted {
 }
 
 /// An open file.
-#[derive(Clone, Copy, Debug, PartialEq, Eq)]
+#[derive(Clone, Copy)]
 pub struct ListFile {
     pub handle: u64,
     pub bearer: Bearer,
@@ -73,7 +83,6 @@ pub struct ListFile {
 }
 
 /// What a request needs from its begin to its finish.
-#[derive(Drop)]
 pub struct Plan {
     pub ask: Ask,
     /// The nodes that it names.
@@ -91,8 +100,26 @@ pub struct Plan {
     pub files: u64,
 }
 
+impl Drop for Plan {
+    // This is a call so that code that drops the value is not checked for each of its parts.
+    fn drop(self) {
+        let Plan {
+            ask: _,
+            given: _,
+            ways: _,
+            shared: _,
+            exclusive: _,
+            same: _,
+            hide: _,
+            last: _,
+            births: _,
+            entries: _,
+            files: _,
+        } = self;
+    }
+}
+
 /// A request in flight.
-#[derive(Drop)]
 pub struct ListRequest {
     pub id: u64,
     pub unique: u64,
@@ -105,6 +132,21 @@ pub struct ListRequest {
     pub opened: Option<u64>,
 }
 
+impl Drop for ListRequest {
+    // This is a call so that code that drops the value is not checked for each of its parts.
+    fn drop(self) {
+        let ListRequest {
+            id: _,
+            unique: _,
+            working: _,
+            plan: _,
+            pins: _,
+            listed: _,
+            opened: _,
+        } = self;
+    }
+}
+
 impl ListRequest {
     pub fn shares(&self, way: &Way) -> bool {
         self.working && is_among(way, self.plan.shared.as_slice())
@@ -113,10 +155,18 @@ impl ListRequest {
     pub fn excludes(&self, way: &Way) -> bool {
         self.working && is_among(way, self.plan.exclusive.as_slice())
     }
+
+    /// How many of its names were given an entry.
+    pub fn entries(&self) -> u64 {
+        let mut entries = 0u64;
+        for given in &self.listed {
+            entries = entries.saturating_add(given.is_some() as u64);
+        }
+        entries
+    }
 }
 
 /// The table.
-#[derive(Drop)]
 pub struct ListTable {
     pub alloc: Global,
     pub limits: Limits,
@@ -129,6 +179,23 @@ pub struct ListTable {
     /// The last handle that was used, or 0.
     pub last_handle: u64,
     pub last_id: u64,
+}
+
+impl Drop for ListTable {
+    // This is a call so that code that drops the value is not checked for each of its parts.
+    fn drop(self) {
+        let ListTable {
+            alloc: _,
+            limits: _,
+            nodes: _,
+            postings: _,
+            requests: _,
+            files: _,
+            counter: _,
+            last_handle: _,
+            last_id: _,
+        } = self;
+    }
 }
 
 impl ListTable {
@@ -156,7 +223,12 @@ impl ListTable {
 
     /// The living node with this number.
     pub fn node(&self, number: u64) -> Option<&ListNode> {
-        self.nodes.iter().find(|node| node.number == number)
+        for node in &self.nodes {
+            if node.number == number {
+                return Some(node);
+            }
+        }
+        None
     }
 
     /// The path of the node with this number, if it has a name.
@@ -167,43 +239,71 @@ impl ListTable {
 
     /// The node at a path.
     pub fn at(&self, way: &Way) -> Option<&ListNode> {
-        self.nodes.iter().find(|node| node.is_at(way))
+        for node in &self.nodes {
+            if node.is_at(way) {
+                return Some(node);
+            }
+        }
+        None
     }
 
     /// The parent's number and the name of a node, if it has a name.
     pub fn place_of(&self, node: &ListNode) -> Option<(u64, Word)> {
         let way = node.way.as_ref()?;
-        let parent = self.nodes.iter().find(|other| other.is_parent_of(way))?;
-        Some((parent.number, way.last()?))
+        let word = way.last()?;
+        for other in &self.nodes {
+            if other.is_parent_of(way) {
+                return Some((other.number, word));
+            }
+        }
+        None
     }
 
     pub fn has_child(&self, way: &Way) -> bool {
-        self.nodes.iter().any(|node| node.is_child_of(way))
+        for node in &self.nodes {
+            if node.is_child_of(way) {
+                return true;
+            }
+        }
+        false
     }
 
     pub fn file(&self, handle: u64) -> Option<ListFile> {
-        self.files
-            .iter()
-            .find(|file| file.handle == handle)
-            .copied()
+        for file in &self.files {
+            if file.handle == handle {
+                return Some(*file);
+            }
+        }
+        None
     }
 
     /// How many files of the node are open.
     pub fn openings(&self, bearer: Bearer) -> usize {
-        self.files
-            .iter()
-            .filter(|file| file.bearer == bearer)
-            .count()
+        let mut openings = 0usize;
+        for file in &self.files {
+            if file.bearer == bearer {
+                openings = openings.saturating_add(1);
+            }
+        }
+        openings
     }
 
     pub fn request(&self, id: u64) -> Option<&ListRequest> {
-        self.requests.iter().find(|request| request.id == id)
+        for request in &self.requests {
+            if request.id == id {
+                return Some(request);
+            }
+        }
+        None
     }
 
     /// How many requests in progress share the path, and how many hold it exclusively.
     pub fn holds_on(&self, way: &Way) -> (u64, u64) {
-        let shared = self.requests.iter().filter(|request| request.shares(way));
-        let exclusive = self.requests.iter().filter(|request| request.excludes(way));
-        (shared.count() as u64, exclusive.count() as u64)
+        let (mut shared, mut exclusive) = (0u64, 0u64);
+        for request in &self.requests {
+            shared = shared.saturating_add(request.shares(way) as u64);
+            exclusive = exclusive.saturating_add(request.excludes(way) as u64);
+        }
+        (shared, exclusive)
     }
 }

@@ -114,7 +114,7 @@ pub const DEFAULT: Limits = Limits {
 
 /// A living node other than the root: its number, its generation, its path, if it has a name, its count, and whether it
 /// has a mark.
-#[derive(Clone, Copy, Debug)]
+#[derive(Clone, Copy)]
 pub struct Living<'a>(pub u64, pub u64, pub Option<&'a [Word]>, pub u64, pub bool);
 
 /// Steps for a new table with the expected results, and what there must be at the end. Requests have the ids 1, 2, 3
@@ -175,23 +175,36 @@ fn take_all(table: &mut ListTable, which: usize, steps: &[(Step, Told)]) -> Resu
     for (place, (step, said)) in steps.iter().enumerate() {
         let told = take(table, *step)?;
         if told != *said {
-            return Err(Fail::from((which, "otherwise", place, told)));
+            return Err(Fail::from((which, "otherwise", place, told.row())));
         }
     }
     Ok(())
 }
 
-/// Fails at the first step of a row with an unexpected result, by its index, or if something else is there at the end.
-pub fn tell(alloc: Global, which: usize, row: Row) -> Result<(), Fail> {
-    let mut table = ListTable::open(alloc, row.limits)?;
-    take_all(&mut table, which, row.steps)?;
-    let there = how_many(&table, row.nodes);
+/// Takes the steps of a row, and checks what is there at the end.
+fn tell_on(table: &mut ListTable, which: usize, row: Row) -> Result<(), Fail> {
+    take_all(table, which, row.steps)?;
+    let there = how_many(table, row.nodes);
     let sizes = (there.saturating_add(1), row.nodes.len().saturating_add(1));
     if sizes != (table.nodes.len(), table.nodes.len()) {
         return Err(Fail::from((which, "nodes", sizes, table.nodes.len())));
     }
     if table.postings.as_slice() != row.postings {
         return Err(Fail::from((which, "postings", table.postings.len())));
+    }
+    Ok(())
+}
+
+/// Fails at the first step of a row with an unexpected result, by its index, or if something else is there at the end.
+fn tell(alloc: Global, which: usize, row: Row) -> Result<(), Fail> {
+    let mut table = ListTable::open(alloc, row.limits)?;
+    tell_on(&mut table, which, row)
+}
+
+/// Tells each row.
+pub fn tell_all(alloc: Global, rows: &[Row]) -> Result<(), Fail> {
+    for (which, row) in rows.iter().enumerate() {
+        tell(alloc, which, *row)?;
     }
     Ok(())
 }

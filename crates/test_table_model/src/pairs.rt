@@ -55,8 +55,12 @@ impl Pairs {
 
     /// The other table's number and generation for those of the list table.
     pub fn of(&self, list: Bearer) -> Option<Bearer> {
-        let pair = self.pairs.iter().find(|pair| pair.list == list)?;
-        Some(pair.other)
+        for pair in &self.pairs {
+            if pair.list == list {
+                return Some(pair.other);
+            }
+        }
+        None
     }
 
     /// Whether the other table's number and generation are paired with those of the list table.

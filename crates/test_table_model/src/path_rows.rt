@@ -25,8 +25,33 @@ fn keeps(alloc: Global, bytes: &[u8]) -> Result<bool, AllocError> {
         name.as_bytes() == bytes
             && copy.as_bytes() == bytes
             && copy.is(&name)
+            && name.len() == bytes.len()
             && copy.len() == bytes.len(),
     )
+}
+
+/// Whether each of these is kept as it came.
+fn keeps_all(alloc: Global, rows: &[&[u8]]) -> Result<bool, AllocError> {
+    for bytes in rows {
+        if !keeps(alloc, bytes)? {
+            return Ok(false);
+        }
+    }
+    Ok(true)
+}
+
+/// Whether the two are different names.
+fn differ(alloc: Global, one: &[u8], other: &[u8]) -> Result<bool, AllocError> {
+    let one = Name::copy_of(alloc, one)?;
+    let other = Name::copy_of(alloc, other)?;
+    Ok(!one.is(&other) && one != other)
+}
+
+/// Whether the text is the name with these bytes.
+fn is_text(alloc: Global, text: &str, bytes: &[u8]) -> Result<bool, AllocError> {
+    let name = Name::copy_of(alloc, bytes)?;
+    let text = Name::from_text(alloc, text)?;
+    Ok(text.is(&name))
 }
 
 /// 73 bytes.
@@ -35,26 +60,29 @@ const LONG: &[u8] = b"abcdefghijklmnopqrstuvwxyz-abcdefghijklmnopqrstuvwxyz-abcd
 #[test]
 fn a_name_of_each_form_is_spelt_as_it_came(rt: HostRuntime) -> Result<(), Fail> {
     // 22 bytes are stored in the name itself, and 72 in one allocation of fixed size.
-    let alloc = rt.alloc();
-    assert!(rt; keeps(alloc, b"")? && keeps(alloc, &LONG[..22])? && keeps(alloc, &LONG[..23])?);
-    assert!(rt; keeps(alloc, &LONG[..72])? && keeps(alloc, LONG)?);
-    let short = Name::copy_of(alloc, &LONG[..22])?;
-    let longer = Name::copy_of(alloc, &LONG[..23])?;
-    assert!(rt; !short.is(&longer) && short != longer);
+    let (short, longer) = (&LONG[..22], &LONG[..23]);
+    let kept = keeps_all(rt.alloc(), &[b"", short, longer, &LONG[..72], LONG])?;
+    let apart = differ(rt.alloc(), short, longer)?;
+    assert!(rt; kept && apart);
     Ok(())
 }
 
 /// Names that are no UTF-8 are kept as they came too, and differ where one byte does.
 #[test]
 fn a_name_has_any_bytes(rt: HostRuntime) -> Result<(), Fail> {
-    let alloc = rt.alloc();
-    assert!(rt; keeps(alloc, b"\xff")? && keeps(alloc, b"\xc3(\x80\x01/\0")?);
-    assert!(rt; keeps(alloc, &[0xff; 23])? && keeps(alloc, &[0x80; 255])?);
-    let first = Name::copy_of(alloc, b"a\xff")?;
-    let second = Name::copy_of(alloc, b"a\xfe")?;
-    assert!(rt; !first.is(&second) && first != second && first.len() == 2);
-    let text = Name::from_text(alloc, "\u{e4}")?;
-    assert!(rt; text.is(&Name::copy_of(alloc, b"\xc3\xa4")?));
+    let kept = keeps_all(
+        rt.alloc(),
+        &[
+            b"\xff",
+            b"\xc3(\x80\x01/\0",
+            &[0xff; 23],
+            &[0x80; 255],
+            b"a\xff",
+        ],
+    )?;
+    let apart = differ(rt.alloc(), b"a\xff", b"a\xfe")?;
+    let same = is_text(rt.alloc(), "\u{e4}", b"\xc3\xa4")?;
+    assert!(rt; kept && apart && same);
     Ok(())
 }
 
@@ -109,39 +137,63 @@ fn are_apart(
 
 #[test]
 fn names_that_differ_in_one_byte_are_apart(rt: HostRuntime) -> Result<(), Fail> {
-    for (one, first, other, second) in APART {
-        let is_so = are_apart(rt.alloc(), (one, first), (other, second))?;
-        assert!(rt; is_so);
+    for (place, (one, first, other, second)) in APART.iter().enumerate() {
+        if !are_apart(rt.alloc(), (one, *first), (other, *second))? {
+            return Err(Fail::from(("not apart", place)));
+        }
     }
     Ok(())
 }
 
+/// How many names the path and how many bytes it has, and whether its copy is the same and has these names.
+fn tell_two(alloc: Global) -> Result<(usize, Option<usize>, bool), AllocError> {
+    let path = two_names(alloc)?;
+    let copy = path.copy()?;
+    let same = copy.is(&path) && spells(copy.names(), &["folder", "x"]);
+    Ok((path.len(), path.bytes(), same))
+}
+
 #[test]
 fn two_names_make_a_path(rt: HostRuntime) -> Result<(), Fail> {
-    let path = two_names(rt.alloc())?;
-    let copy = path.copy()?;
-    let told = (path.len(), path.bytes(), copy.is(&path));
+    let told = tell_two(rt.alloc())?;
     assert_eq!(rt; told, (2, Some(9), true));
-    assert!(rt; spells(copy.names(), &["folder", "x"]));
     Ok(())
+}
+
+/// The folder's path, the root's, and that of the names of the folder and then those of the path.
+fn prefixes_of(alloc: Global) -> Result<(Path, Path, Path), AllocError> {
+    let path = two_names(alloc)?;
+    let folder = path.prefix(1)?;
+    let root = folder.prefix(0)?;
+    let below = Path::joined(alloc, folder.names(), path.names())?;
+    Ok((folder, root, below))
+}
+
+/// Whether these are prefixes of one another just as they should be, and have the right names.
+fn are_nested(folder: &Path, root: &Path, below: &Path) -> bool {
+    root.is_prefix_of(below)
+        && folder.is_prefix_of(below)
+        && !below.is_prefix_of(folder)
+        && spells(folder.names(), &["folder"])
+        && spells(below.names(), &["folder", "folder", "x"])
+}
+
+fn lengths(path: &Path) -> (usize, Option<usize>) {
+    (path.len(), path.bytes())
+}
+
+/// The lengths of the three paths, and whether they are nested, after the path that they come from was dropped.
+fn tell_prefixes(alloc: Global) -> Result<([(usize, Option<usize>); 3], bool), AllocError> {
+    let (folder, root, below) = prefixes_of(alloc)?;
+    Ok((
+        [lengths(&folder), lengths(&root), lengths(&below)],
+        are_nested(&folder, &root, &below),
+    ))
 }
 
 #[test]
 fn prefixes_and_copies_are_paths_of_their_own(rt: HostRuntime) -> Result<(), Fail> {
-    let path = two_names(rt.alloc())?;
-    let folder = path.prefix(1)?;
-    let root = folder.prefix(0)?;
-    let below = Path::joined(rt.alloc(), folder.names(), path.names())?;
-    drop(path);
-    assert_eq!(rt; (folder.len(), root.len(), below.len()), (1, 0, 3));
-    assert_eq!(rt;
-        (folder.bytes(), root.bytes(), below.bytes()),
-        (Some(7), Some(0), Some(16))
-    );
-    assert!(rt; spells(folder.names(), &["folder"]));
-    assert!(rt; spells(below.names(), &["folder", "folder", "x"]));
-    assert!(rt;
-        root.is_prefix_of(&below) && folder.is_prefix_of(&below) && !below.is_prefix_of(&folder)
-    );
+    let told = tell_prefixes(rt.alloc())?;
+    assert_eq!(rt; told, ([(1, Some(7)), (0, Some(0)), (3, Some(16))], true));
     Ok(())
 }

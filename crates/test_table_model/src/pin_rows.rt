@@ -49,6 +49,16 @@ fn add(alloc: Global, requests: &mut RequestsInFlight, numbers: &[u64]) -> Resul
     })
 }
 
+/// Whether each of the numbers is pinned, or none is.
+fn are_all(requests: &RequestsInFlight, numbers: &[u64], pinned: bool) -> bool {
+    for number in numbers {
+        if requests.pins(*number) != pinned {
+            return false;
+        }
+    }
+    true
+}
+
 /// Whether the step has the right result.
 fn holds(alloc: Global, requests: &mut RequestsInFlight, step: &Step) -> Result<bool, AllocError> {
     match *step {
@@ -57,8 +67,8 @@ fn holds(alloc: Global, requests: &mut RequestsInFlight, step: &Step) -> Result<
             Ok(true)
         }
         Step::Take(id) => Ok(requests.take(id).is_some()),
-        Step::Pinned(numbers) => Ok(numbers.iter().all(|number| requests.pins(*number))),
-        Step::Free(numbers) => Ok(!numbers.iter().any(|number| requests.pins(*number))),
+        Step::Pinned(numbers) => Ok(are_all(requests, numbers, true)),
+        Step::Free(numbers) => Ok(are_all(requests, numbers, false)),
     }
 }
 
@@ -150,10 +160,8 @@ fn halve(alloc: Global, requests: &mut RequestsInFlight) -> Result<(), AllocErro
     Ok(())
 }
 
-#[test]
-fn many_pins_are_loose(rt: HostRuntime) -> Result<(), Fail> {
-    let mut requests = RequestsInFlight::new(rt.alloc(), RandomState::new(&rt)?);
-    halve(rt.alloc(), &mut requests)?;
+/// Fails at the first request whose pins are not as they should be.
+fn expect_halved(requests: &RequestsInFlight) -> Result<(), Fail> {
     for i in 0..1_000 {
         let pinned = i % 2 == 1;
         if requests.pins(LOOSE + i) != pinned || requests.pins(i) != pinned {
@@ -161,4 +169,11 @@ fn many_pins_are_loose(rt: HostRuntime) -> Result<(), Fail> {
         }
     }
     Ok(())
+}
+
+#[test]
+fn many_pins_are_loose(rt: HostRuntime) -> Result<(), Fail> {
+    let mut requests = RequestsInFlight::new(rt.alloc(), RandomState::new(&rt)?);
+    halve(rt.alloc(), &mut requests)?;
+    expect_halved(&requests)
 }

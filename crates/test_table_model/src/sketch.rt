@@ -6,7 +6,7 @@ use paths::Name;
 use std::alloc::{AllocError, Global};
 use table_files::{Access, OpenEntry, OpenFile};
 use table_image::{
-    Births, Holds, Image, ImageStage, Nodes, Numbers, OpenFiles, Postings, Record, Records,
+    Births, Holds, Image, ImageStage, Items, Nodes, Numbers, OpenFiles, Postings, Record, Records,
 };
 use tree::{Key, Node, Place};
 
@@ -92,24 +92,25 @@ fn pinning(alloc: Global, id: u64, number: u64) -> Result<Record, AllocError> {
     })
 }
 
-fn nodes_of(alloc: Global, nodes: &[Living]) -> Result<Nodes, AllocError> {
-    let mut all = Nodes::new(alloc);
+fn add_nodes(alloc: Global, all: &mut Nodes, nodes: &[Living]) -> Result<(), AllocError> {
     for living in nodes {
         all.add(node(alloc, living)?)?;
     }
-    Ok(all)
+    Ok(())
 }
 
-fn records_of(alloc: Global, requests: &[(u64, u64)]) -> Result<Records, AllocError> {
-    let mut all = Records::new(alloc);
+fn add_records(
+    alloc: Global,
+    all: &mut Records,
+    requests: &[(u64, u64)],
+) -> Result<(), AllocError> {
     for (id, number) in requests {
         all.add(pinning(alloc, *id, *number)?)?;
     }
-    Ok(all)
+    Ok(())
 }
 
-fn files_of(alloc: Global, opened: &[(u64, u64, u64)]) -> Result<OpenFiles, AllocError> {
-    let mut all = OpenFiles::new(alloc);
+fn add_files(all: &mut OpenFiles, opened: &[(u64, u64, u64)]) -> Result<(), AllocError> {
     for (handle, number, generation) in opened {
         all.add(OpenEntry {
             handle: *handle,
@@ -120,20 +121,38 @@ fn files_of(alloc: Global, opened: &[(u64, u64, u64)]) -> Result<OpenFiles, Allo
             },
         })?;
     }
-    Ok(all)
+    Ok(())
+}
+
+fn add_all<T: Copy>(all: &mut Items<T>, rows: &[T]) -> Result<(), AllocError> {
+    for row in rows {
+        all.add(*row)?;
+    }
+    Ok(())
+}
+
+/// Puts what the sketch says into the image, which is lent, so that nothing drops it where memory is refused.
+fn fill(alloc: Global, image: &mut Image, sketch: &Sketch) -> Result<(), AllocError> {
+    add_nodes(alloc, &mut image.nodes, sketch.nodes)?;
+    add_all(&mut image.births, sketch.past.births)?;
+    add_all(&mut image.postings, sketch.postings)?;
+    add_records(alloc, &mut image.records, sketch.pinning)?;
+    add_files(&mut image.files, sketch.opened)
 }
 
 /// The image for this sketch.
 pub fn image(alloc: Global, sketch: &Sketch) -> Result<Image, AllocError> {
-    Ok(Image {
-        nodes: nodes_of(alloc, sketch.nodes)?,
-        births: Births::from(Vec::from_slice(alloc, sketch.past.births)?),
+    let mut image = Image {
+        nodes: Nodes::new(alloc),
+        births: Births::new(alloc),
         closed: sketch.past.totals,
-        postings: Postings::from(Vec::from_slice(alloc, sketch.postings)?),
-        records: records_of(alloc, sketch.pinning)?,
-        holds: Holds::from(Vec::new(alloc)),
-        files: files_of(alloc, sketch.opened)?,
+        postings: Postings::new(alloc),
+        records: Records::new(alloc),
+        holds: Holds::new(alloc),
+        files: OpenFiles::new(alloc),
         counter: 0,
         last_handle: 2,
-    })
+    };
+    fill(alloc, &mut image, sketch)?;
+    Ok(image)
 }

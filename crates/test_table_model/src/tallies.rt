@@ -4,7 +4,7 @@ use crate::asks::{Ask, Step, Told};
 use std::alloc::{AllocError, Global};
 
 /// The result of a call.
-#[derive(Clone, Copy, Debug, PartialEq, Eq)]
+#[derive(Clone, Copy, PartialEq, Eq)]
 pub enum Came {
     Begun,
     /// A request for a further name began.
@@ -67,12 +67,22 @@ impl Tallies {
         Ok(())
     }
 
-    /// The first of these that came fewer times, with how many times it came.
-    pub fn too_few(&self, expected: &[Came], least: usize) -> Option<(Came, usize)> {
-        for one in expected {
-            let times = self.all.iter().filter(|came| **came == *one).count();
+    fn times(&self, one: Came) -> usize {
+        let mut times = 0usize;
+        for came in &self.all {
+            if *came == one {
+                times = times.saturating_add(1);
+            }
+        }
+        times
+    }
+
+    /// The index of the first of these that came fewer times, with how many times it came.
+    pub fn too_few(&self, expected: &[Came], least: usize) -> Option<(usize, usize)> {
+        for (place, one) in expected.iter().enumerate() {
+            let times = self.times(*one);
             if times < least {
-                return Some((*one, times));
+                return Some((place, times));
             }
         }
         None

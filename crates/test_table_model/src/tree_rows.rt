@@ -1,11 +1,34 @@
 //! A folder and a file, their paths, and a walk over them.
 
+ghost use Rattle.std.specs.Prelude.{◌≤◌};
+
 use crate::spelling::spells;
 use paths::Name;
 use std::alloc::Global;
 use std::hash::RandomState;
 use std::test::Fail;
 use tree::{Key, Tree};
+
+/// A tree in which nodes are planted.
+struct TestTree {
+    tree: Tree,
+}
+
+impl Drop for TestTree {
+    // This is a call so that code that drops the value is not checked for each part of a tree.
+    fn drop(self) {
+        let TestTree { tree: _ } = self;
+    }
+}
+
+/// A new tree, in which that many nodes may live.
+fn new_tree(rt: &HostRuntime, nodes: u64) -> Result<TestTree, Fail>
+    requires { 1 ≤ nodes }
+{
+    let seed = RandomState::new(rt)?;
+    let tree = Tree::new(rt.alloc(), nodes, seed)?;
+    Ok(TestTree { tree })
+}
 
 /// Creates a node at the name.
 fn plant(tree: &mut Tree, alloc: Global, parent: u64, name: &str) -> Result<u64, Fail> {
@@ -45,8 +68,8 @@ fn tell_file(
 
 #[test]
 fn path_of_a_file_in_a_folder(rt: HostRuntime) -> Result<(), Fail> {
-    let mut tree = Tree::new(rt.alloc(), 3, RandomState::new(&rt)?)?;
-    let told = tell_file(&mut tree, rt.alloc(), &["d", "x"])?;
+    let mut made = new_tree(&rt, 3)?;
+    let told = tell_file(&mut made.tree, rt.alloc(), &["d", "x"])?;
     assert_eq!(rt; told, (3, Some(4), true, true));
     Ok(())
 }
@@ -67,8 +90,8 @@ fn tell_absent(
 
 #[test]
 fn path_of_an_absent_name(rt: HostRuntime) -> Result<(), Fail> {
-    let mut tree = Tree::new(rt.alloc(), 2, RandomState::new(&rt)?)?;
-    let told = tell_absent(&mut tree, rt.alloc(), &["d", "absent"])?;
+    let mut made = new_tree(&rt, 2)?;
+    let told = tell_absent(&mut made.tree, rt.alloc(), &["d", "absent"])?;
     assert_eq!(rt; told, (Some(9), true));
     Ok(())
 }
@@ -88,9 +111,9 @@ fn tell_walk(tree: &mut Tree, alloc: Global) -> Result<(u64, u64, [Option<u64>; 
 
 #[test]
 fn walk_meets_the_root_and_both_nodes(rt: HostRuntime) -> Result<(), Fail> {
-    let mut tree = Tree::new(rt.alloc(), 3, RandomState::new(&rt)?)?;
-    let next = tree.next_free();
-    let (folder, file, walk) = tell_walk(&mut tree, rt.alloc())?;
+    let mut made = new_tree(&rt, 3)?;
+    let next = made.tree.next_free();
+    let (folder, file, walk) = tell_walk(&mut made.tree, rt.alloc())?;
     let wanted = [
         Some(1),
         Some(folder.min(file)),

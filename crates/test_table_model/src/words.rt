@@ -3,7 +3,7 @@
 use std::alloc::{AllocError, Global};
 
 /// A name: one letter repeated that many times, or one that the table gives to a file that it hides.
-#[derive(Clone, Copy, Debug, PartialEq, Eq)]
+#[derive(Clone, Copy, PartialEq, Eq)]
 pub enum Word {
     Plain {
         letter: char,
@@ -115,7 +115,12 @@ impl Way {
 }
 
 pub fn is_among(way: &Way, ways: &[Way]) -> bool {
-    ways.iter().any(|other| other.is(way))
+    for other in ways {
+        if other.is(way) {
+            return true;
+        }
+    }
+    false
 }
 
 /// Adds the path, unless it is there.
