@@ -25,7 +25,7 @@ const ALL: Given = &[
 ];
 
 /// Names as a directory lists them, and the listing.
-const LISTED: [(Given, &str); 14] = [
+const LISTED: &[(Given, &str)] = &[
     (&[], "./ ../"),
     (SAMPLE, "./ ../ a d/ e"),
     (ALL, "./ ../ b%b c%c d/ f l@ p| s="),
@@ -86,7 +86,7 @@ fn expect_listed(alloc: Global, given: Given, want: &'static str) -> Result<(), 
 #[test]
 fn listed_names(rt: HostRuntime) -> Result<(), Fail> {
     for (given, want) in LISTED {
-        expect_listed(rt.alloc(), given, want)?;
+        expect_listed(rt.alloc(), *given, *want)?;
     }
     Ok(())
 }
@@ -94,7 +94,7 @@ fn listed_names(rt: HostRuntime) -> Result<(), Fail> {
 /// Whether with attributes, from which offset, for how many bytes, and the page as text.
 type Row = (bool, u64, u32, &'static str);
 
-const PAGES: [(Given, &[Row]); 2] = [
+const PAGES: &[(Given, &[Row])] = &[
     (
         FILES,
         &[
@@ -153,7 +153,7 @@ fn expect_pages(alloc: Global, listing: &Listing, rows: &[Row]) -> Result<(), Fa
 #[test]
 fn pages_by_bytes(rt: HostRuntime) -> Result<(), Fail> {
     for (given, rows) in PAGES {
-        expect_pages(rt.alloc(), &listing(rt.alloc(), given)?, rows)?;
+        expect_pages(rt.alloc(), &listing(rt.alloc(), *given)?, rows)?;
     }
     Ok(())
 }

@@ -18,7 +18,7 @@ const LOOKUP_A: [u8; 42] = [
 type Gap = Option<usize>;
 
 /// Where a piece and the next one are in their buffers.
-const GAPS: [(Gap, Gap); 7] = [
+const GAPS: &[(Gap, Gap)] = &[
     (Some(0), Some(0)),
     (Some(0), None),
     (None, Some(0)),
@@ -209,11 +209,11 @@ fn take_with_gaps(cutter: &mut Cutter, room: &mut Vec<u8>, at: usize) -> Result<
     };
     for (one, other) in GAPS {
         let steps = [
-            Feed(one, front),
+            Feed(*one, front),
             Next(Nothing),
             Rest(at),
-            Feed(other, back),
-            Feed(one, &LOOKUP_A),
+            Feed(*other, back),
+            Feed(*one, &LOOKUP_A),
             Next(Whole),
             Rest(42),
             Next(Whole),
@@ -237,23 +237,34 @@ fn pieces_in_a_room_and_others_in_turn(rt: HostRuntime) -> Result<(), Fail> {
     take_cut_anywhere(&mut Cutter::new(rt.alloc()), &mut Vec::new(rt.alloc()))
 }
 
+/// The beginning of a frame, and its length, which no frame may have.
+const BAD: &[(&[u8], u32)] = &[(&[0x27, 0, 0, 0], 39), (&[0x01, 0x10, 0x01, 0], 69633)];
+
+/// The beginnings of frames of the least and of the greatest length.
+const GOOD: &[&[u8]] = &[&[0x28, 0, 0, 0], &[0x00, 0x10, 0x01, 0]];
+
+/// After a whole frame one begins with such a length: nothing more is taken, and nothing comes of it.
+fn tell_bad(alloc: Global, first: &[u8], len: u32) -> Result<(), Fail> {
+    let steps = [
+        Feed(None, &LOOKUP_A),
+        Feed(None, first),
+        Next(Whole),
+        Next(BadLength(len)),
+        Refuse(len),
+        Next(BadLength(len)),
+        Refuse(len),
+        Rest(4),
+    ];
+    tell(alloc, &steps)
+}
+
 #[test]
 fn bad_length(rt: HostRuntime) -> Result<(), Fail> {
-    for (first, len) in [([0x27, 0, 0, 0], 39), ([0x01, 0x10, 0x01, 0], 69633)] {
-        let steps = [
-            Feed(None, &LOOKUP_A),
-            Feed(None, &first),
-            Next(Whole),
-            Next(BadLength(len)),
-            Refuse(len),
-            Next(BadLength(len)),
-            Refuse(len),
-            Rest(4),
-        ];
-        tell(rt.alloc(), &steps)?;
+    for (first, len) in BAD {
+        tell_bad(rt.alloc(), first, *len)?;
     }
-    for first in [[0x28, 0, 0, 0], [0x00, 0x10, 0x01, 0]] {
-        tell(rt.alloc(), &[Feed(None, &first), Next(Nothing)])?;
+    for first in GOOD {
+        tell(rt.alloc(), &[Feed(None, first), Next(Nothing)])?;
     }
     Ok(())
 }

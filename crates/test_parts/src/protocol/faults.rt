@@ -287,7 +287,7 @@ fn faulty_opcodes_and_lengths(rt: HostRuntime) -> Result<(), Fail> {
 }
 
 /// The error numbers of the faults.
-const ERRNOS: [(WireFault, i32); 5] = [
+const ERRNOS: &[(WireFault, i32)] = &[
     (Opcode, 38),
     (NameLong, 36),
     (Body, 22),
@@ -296,7 +296,7 @@ const ERRNOS: [(WireFault, i32); 5] = [
 ];
 
 /// Opcodes, and whether they are answered.
-const ANSWERED: [(u32, bool); 6] = [
+const ANSWERED: &[(u32, bool)] = &[
     (2, false),
     (6, true),
     (12, true),
@@ -321,13 +321,13 @@ fn is_answered(alloc: Global, opcode: u32, answered: bool) -> Result<bool, Fail>
 #[test]
 fn answers_to_faulty_frames(rt: HostRuntime) -> Result<(), Fail> {
     for (fault, errno) in ERRNOS {
-        if fault.errno() != errno {
-            return Err(Fail::from(("a fault has not the number", errno)));
+        if fault.errno() != *errno {
+            return Err(Fail::from(("a fault has not the number", *errno)));
         }
     }
     for (opcode, answered) in ANSWERED {
-        if !is_answered(rt.alloc(), opcode, answered)? {
-            return Err(Fail::from(("answered otherwise", opcode)));
+        if !is_answered(rt.alloc(), *opcode, *answered)? {
+            return Err(Fail::from(("answered otherwise", *opcode)));
         }
     }
     Ok(())
