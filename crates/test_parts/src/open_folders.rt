@@ -4,3 +4,4 @@ mod folders;
 mod limits;
 mod making;
 mod pages;
+mod steps;

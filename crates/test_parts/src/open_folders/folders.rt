@@ -1,6 +1,7 @@
 //! Listings that are stored, lent and retired.
 
 use crate::open_folders::making::{Given, listing, some_listing, told};
+use crate::open_folders::steps::{Step, expect_sum, is_lent, take, tell};
 use handles::{Dirs, FolderLimits, Listing};
 use payload::Kind::{File, Folder};
 use std::alloc::{AllocError, Global};
@@ -14,90 +15,80 @@ const TWO: Given = &[("c", File), ("b", Folder)];
 /// How many folders may be open in the test in which four threads close each of them.
 const MANY: u64 = 1_000;
 
-fn put(dirs: &Dirs, listing: Listing) -> Result<u64, Fail> {
-    match dirs.put(listing) {
-        Ok(fh) => Ok(fh),
-        Err(_) => Err(Fail::from("the listing came back")),
-    }
-}
-
-/// Fails where it is not so.
-fn expect(is_so: bool, says: &'static str) -> Result<(), Fail> {
-    if is_so {
-        return Ok(());
-    }
-    Err(Fail::from(says))
-}
-
-/// Whether the listing that is lent under the handle has that handle and these names.
-fn is_lent(alloc: Global, dirs: &Dirs, fh: u64, names: &str) -> Result<bool, AllocError> {
-    let Some(lent) = dirs.lend(fh) else {
-        return Ok(false);
-    };
-    let text = told(alloc, lent.listing().entries())?;
-    Ok(lent.listing().fh() == fh && text.as_str() == names)
-}
-
 #[test]
 fn nothing_is_lent_at_first(rt: HostRuntime) -> Result<(), Fail> {
+    const STEPS: &[Step] = &[Step::Never(0), Step::Never(u64::MAX)];
     let dirs = Dirs::new(rt.alloc())?;
-    expect(dirs.lend(0).is_none(), "the handle 0 is lent")?;
-    expect(dirs.lend(u64::MAX).is_none(), "the last handle is lent")?;
-    expect(!dirs.retire(0), "the handle 0 is retired")
+    tell(rt.alloc(), &dirs, STEPS)
 }
 
 #[test]
 fn put_lent_and_retired(rt: HostRuntime) -> Result<(), Fail> {
+    const STEPS: &[Step] = &[
+        Step::Put(ONE),
+        Step::Put(TWO),
+        Step::Fresh,
+        Step::Lend(0, "./ ../ a"),
+        Step::Lend(1, "./ ../ b/ c"),
+        Step::Retire(0),
+        Step::Gone(0),
+        Step::Lend(1, "./ ../ b/ c"),
+        Step::Put(ONE),
+        Step::Fresh,
+        Step::Retire(2),
+        Step::Retire(1),
+    ];
     let dirs = Dirs::new(rt.alloc())?;
-    let first = put(&dirs, listing(rt.alloc(), ONE)?)?;
-    let second = put(&dirs, listing(rt.alloc(), TWO)?)?;
-    expect(first != second, "one handle for two listings")?;
-    expect(is_lent(rt.alloc(), &dirs, first, "./ ../ a")?, "the first")?;
-    expect(
-        is_lent(rt.alloc(), &dirs, second, "./ ../ b/ c")?,
-        "the second",
-    )?;
-    expect(dirs.retire(first), "the first is not retired")?;
-    expect(!dirs.retire(first), "the first is retired twice")?;
-    expect(
-        is_lent(rt.alloc(), &dirs, second, "./ ../ b/ c")?,
-        "the second, once the first is gone",
-    )?;
-    let third = put(&dirs, listing(rt.alloc(), ONE)?)?;
-    expect(third != first && third != second, "a handle comes again")?;
-    expect(
-        dirs.retire(third) && dirs.retire(second),
-        "not all are retired",
-    )
+    tell(rt.alloc(), &dirs, STEPS)
+}
+
+/// Whether this closes the handle and no later call does. What was closed is lent to nobody else, and has its handle.
+fn is_closed_once(dirs: &Dirs, fh: u64) -> bool {
+    let Some(last) = dirs.close(fh) else {
+        return false;
+    };
+    !dirs.retire(fh) && dirs.lend(fh).is_none() && last.listing().fh() == fh
+}
+
+/// Whether it is closed once while it is lent.
+fn is_closed_while_lent(dirs: &Dirs, fh: u64) -> bool {
+    let Some(again) = dirs.lend(fh) else {
+        return false;
+    };
+    is_closed_once(dirs, fh) && again.listing().fh() == fh
+}
+
+/// Whether it is the listing with the name `a`.
+fn is_one(alloc: Global, listing: &Listing) -> Result<bool, AllocError> {
+    let text = told(alloc, listing.entries())?;
+    Ok(listing.number() == 1 && text.as_str() == "./ ../ a")
+}
+
+/// Whether it is closed once while it is lent twice, and stays as it is for who has it.
+fn is_kept_while_lent(alloc: Global, dirs: &Dirs, fh: u64) -> Result<bool, AllocError> {
+    let Some(lent) = dirs.lend(fh) else {
+        return Ok(false);
+    };
+    let is_closed = is_closed_while_lent(dirs, fh);
+    Ok(is_one(alloc, lent.listing())? && is_closed)
+}
+
+/// Stores a listing, and closes it while it is lent.
+fn close_while_lent(alloc: Global, dirs: &Dirs) -> Result<(), Fail> {
+    let Ok(fh) = dirs.put(listing(alloc, ONE)?) else {
+        return Err(Fail::from("the listing came back"));
+    };
+    if is_kept_while_lent(alloc, dirs, fh)? {
+        return Ok(());
+    }
+    Err(Fail::from(("it is closed otherwise", fh)))
 }
 
 // A handle is closed only once, even while its listing is lent.
 #[test]
 fn closed_while_it_is_lent(rt: HostRuntime) -> Result<(), Fail> {
     let dirs = Dirs::new(rt.alloc())?;
-    let fh = put(&dirs, listing(rt.alloc(), ONE)?)?;
-    let Some(lent) = dirs.lend(fh) else {
-        return Err(Fail::from("it is not lent"));
-    };
-    let Some(again) = dirs.lend(fh) else {
-        return Err(Fail::from("it is not lent twice"));
-    };
-    let Some(last) = dirs.close(fh) else {
-        return Err(Fail::from("it is not closed"));
-    };
-    expect(
-        !dirs.retire(fh) && dirs.lend(fh).is_none(),
-        "it is closed and lent",
-    )?;
-    expect(
-        last.listing().fh() == fh && again.listing().fh() == fh,
-        "another handle",
-    )?;
-    let text = told(rt.alloc(), lent.listing().entries())?;
-    expect(
-        lent.listing().number() == 1 && text.as_str() == "./ ../ a",
-        "another listing",
-    )
+    close_while_lent(rt.alloc(), &dirs)
 }
 
 /// The results of a thread: how many of its listings were lent as they were stored and then retired, and under which
@@ -146,16 +137,12 @@ fn retire_all(dirs: &Dirs, handles: &[u64]) -> u64 {
     count
 }
 
-/// The handles of so many folders with one name each. There is room for no more.
-fn full(alloc: Global, dirs: &Dirs) -> Result<Vec<u64>, Fail> {
-    let mut handles = Vec::new(alloc);
+/// Stores so many listings with one name each. There is room for no more.
+fn fill(alloc: Global, dirs: &Dirs, handles: &mut Vec<u64>) -> Result<(), Fail> {
     for _folder in 0..MANY {
-        handles.push(put(dirs, listing(alloc, ONE)?)?)?;
+        take(alloc, dirs, handles, Step::Put(ONE))?;
     }
-    if dirs.put(listing(alloc, ONE)?).is_ok() {
-        return Err(Fail::from("there is room for one more"));
-    }
-    Ok(handles)
+    take(alloc, dirs, handles, Step::Back(ONE))
 }
 
 // If several calls close the same handle, exactly one gets true, over 20,000 handles. Each time there is as much room as
@@ -169,16 +156,39 @@ fn each_handle_is_closed_once(rt: HostRuntime) -> Result<(), Fail> {
     };
     let dirs = Dirs::with_limits(alloc, limits)?;
     for _round in 0..20 {
-        let handles = full(alloc, &dirs)?;
+        let mut handles = Vec::new(alloc);
+        fill(alloc, &dirs, &mut handles)?;
         let (shared, all) = (&dirs, handles.as_slice());
         let counts = thread::map_indices(&rt, alloc, 4, &|_thread| retire_all(shared, all))?;
-        let mut retired = 0u64;
-        for count in &counts {
-            retired = retired.saturating_add(*count);
-        }
-        assert_eq!(rt; retired, MANY);
+        expect_sum(&counts, MANY)?;
     }
     Ok(())
+}
+
+/// How many of these handles are lent no more.
+fn count_gone(dirs: &Dirs, handles: &[u64]) -> u64 {
+    let mut gone = 0u64;
+    for fh in handles {
+        if dirs.lend(*fh).is_none() {
+            gone = gone.saturating_add(1);
+        }
+    }
+    gone
+}
+
+/// Whether each thread found its folders right, and all are gone.
+fn expect_worked(dirs: &Dirs, all: &[Worked]) -> Result<(), Fail> {
+    let mut gone = 0u64;
+    for worked in all {
+        if worked.right != 1_000 {
+            return Err(Fail::from(("not all were right", worked.right)));
+        }
+        gone = gone.saturating_add(count_gone(dirs, &worked.handles));
+    }
+    if gone == 4_000 {
+        return Ok(());
+    }
+    Err(Fail::from(("not all are gone", gone)))
 }
 
 // What one thread stores is not affected by others, and nothing is left of it afterwards.
@@ -188,15 +198,5 @@ fn four_threads(rt: HostRuntime) -> Result<(), Fail> {
     let dirs = Dirs::new(alloc)?;
     let shared = &dirs;
     let all = thread::map_indices(&rt, alloc, 4, &|_thread| use_folders(alloc, shared))?;
-    let mut gone = 0u64;
-    for worked in &all {
-        assert_eq!(rt; worked.right, 1_000);
-        for fh in &worked.handles {
-            if dirs.lend(*fh).is_none() {
-                gone = gone.saturating_add(1);
-            }
-        }
-    }
-    assert_eq!(rt; gone, 4_000);
-    Ok(())
+    expect_worked(&dirs, &all)
 }

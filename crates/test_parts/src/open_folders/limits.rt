@@ -1,6 +1,7 @@
 //! Listings that are stored up to the limits of the open folders, and beyond them.
 
-use crate::open_folders::making::{Given, listing, some_listing};
+use crate::open_folders::making::{Given, some_listing};
+use crate::open_folders::steps::{Step, expect_sum, take, take_all, tell};
 use handles::{Dirs, FolderLimits, MAX_OPEN_FOLDERS};
 use payload::Kind::File;
 use std::alloc::Global;
@@ -13,42 +14,11 @@ const ONE: Given = &[("a", File)];
 
 const TWO: Given = &[("a", File), ("b", File)];
 
-/// One step with the open folders.
-#[derive(Clone, Copy)]
-enum Step {
-    /// A listing with these names is stored.
-    Put(Given),
-    /// A listing with these names is refused, and returned unchanged.
-    Back(Given),
-    /// The handle of the listing that was stored at this position, counted from 0, is closed.
-    Retire(usize),
-}
-
-/// Whether the step has the right answer. Handles are kept.
-fn is_right(alloc: Global, dirs: &Dirs, handles: &mut Vec<u64>, step: Step) -> Result<bool, Fail> {
-    Ok(match step {
-        Step::Put(names) => match dirs.put(listing(alloc, names)?) {
-            Ok(fh) => {
-                handles.push(fh)?;
-                true
-            }
-            Err(_) => false,
-        },
-        Step::Back(names) => dirs.put(listing(alloc, names)?).is_err_and(|back| back.fh() == 0
-            && back.entries().len() == names.len() + 2),
-        Step::Retire(place) => match handles.get(place) {
-            Some(fh) => dirs.retire(*fh),
-            None => false,
-        },
-    })
-}
-
-fn take(alloc: Global, dirs: &Dirs, handles: &mut Vec<u64>, step: Step) -> Result<(), Fail> {
-    if is_right(alloc, dirs, handles, step)? {
-        return Ok(());
-    }
-    Err(Fail::from(("after so many handles", handles.len())))
-}
+/// Room for two folders, one with one name and one with two.
+const SMALL: FolderLimits = FolderLimits {
+    folders: 2,
+    names: 7,
+};
 
 // `.` and `..` count as names, too.
 #[test]
@@ -66,29 +36,23 @@ fn listings_come_back_beyond_the_limits(rt: HostRuntime) -> Result<(), Fail> {
         Step::Put(TWO),
         Step::Put(ONE),
     ];
-    let limits = FolderLimits {
-        folders: 2,
-        names: 7,
-    };
-    let dirs = Dirs::with_limits(rt.alloc(), limits)?;
-    let mut handles = Vec::new(rt.alloc());
-    for step in STEPS {
-        take(rt.alloc(), &dirs, &mut handles, *step)?;
+    let dirs = Dirs::with_limits(rt.alloc(), SMALL)?;
+    tell(rt.alloc(), &dirs, STEPS)
+}
+
+/// Stores as many as may be open, and beyond.
+fn fill(alloc: Global, dirs: &Dirs, handles: &mut Vec<u64>) -> Result<(), Fail> {
+    for _folder in 0..MAX_OPEN_FOLDERS {
+        take(alloc, dirs, handles, Step::Put(NONE))?;
     }
-    Ok(())
+    let steps = [Step::Back(NONE), Step::Retire(7), Step::Put(ONE)];
+    take_all(alloc, dirs, handles, &steps)
 }
 
 #[test]
 fn so_many_folders(rt: HostRuntime) -> Result<(), Fail> {
-    let alloc = rt.alloc();
-    let dirs = Dirs::new(alloc)?;
-    let mut handles = Vec::new(alloc);
-    for _folder in 0..MAX_OPEN_FOLDERS {
-        take(alloc, &dirs, &mut handles, Step::Put(NONE))?;
-    }
-    take(alloc, &dirs, &mut handles, Step::Back(NONE))?;
-    take(alloc, &dirs, &mut handles, Step::Retire(7))?;
-    take(alloc, &dirs, &mut handles, Step::Put(ONE))
+    let dirs = Dirs::new(rt.alloc())?;
+    fill(rt.alloc(), &dirs, &mut Vec::new(rt.alloc()))
 }
 
 /// Stores 500 listings, and retires each that was not returned. Returns how many were stored.
@@ -106,20 +70,14 @@ fn put_and_retire(alloc: Global, dirs: &Dirs) -> u64 {
     made
 }
 
-// Whatever was refused to threads that met at the limits, all room is there again after they have ended.
+// Whatever was refused to threads that met at the limits, all room is there again after they have ended. None makes more than 500.
 #[test]
 fn no_place_is_lost(rt: HostRuntime) -> Result<(), Fail> {
+    const STEPS: &[Step] = &[Step::Put(TWO), Step::Put(ONE), Step::Back(NONE)];
     let alloc = rt.alloc();
-    let limits = FolderLimits {
-        folders: 2,
-        names: 7,
-    };
-    let dirs = Dirs::with_limits(alloc, limits)?;
+    let dirs = Dirs::with_limits(alloc, SMALL)?;
     let shared = &dirs;
-    let all = thread::map_indices(&rt, alloc, 4, &|_thread| put_and_retire(alloc, shared))?;
-    assert!(rt; all.iter().all(|made| *made == 500));
-    let mut handles = Vec::new(alloc);
-    take(alloc, &dirs, &mut handles, Step::Put(TWO))?;
-    take(alloc, &dirs, &mut handles, Step::Put(ONE))?;
-    take(alloc, &dirs, &mut handles, Step::Back(NONE))
+    let made = thread::map_indices(&rt, alloc, 4, &|_thread| put_and_retire(alloc, shared))?;
+    expect_sum(&made, 2_000)?;
+    tell(alloc, &dirs, STEPS)
 }

@@ -25,7 +25,7 @@ const ALL: Given = &[
 ];
 
 /// Names as a directory lists them, and the listing.
-const LISTED: [(Given, &str); 14] = [
+const LISTED: &[(Given, &str)] = &[
     (&[], "./ ../"),
     (SAMPLE, "./ ../ a d/ e"),
     (ALL, "./ ../ b%b c%c d/ f l@ p| s="),
@@ -56,19 +56,37 @@ const LISTED: [(Given, &str); 14] = [
     (&[("..", Folder)], "lawless"),
 ];
 
+/// What a listing shows of node 7 that was not stored.
+fn shown(alloc: Global, listing: &Listing) -> Result<String, AllocError> {
+    if listing.number() == 7 && listing.fh() == 0 {
+        told(alloc, listing.entries())
+    } else {
+        String::from_str(alloc, "other numbers")
+    }
+}
+
+/// What is listed of these names, or why nothing is.
+fn listed(alloc: Global, given: Given) -> Result<String, AllocError> {
+    match Listing::new(alloc, 7, children(alloc, given)?) {
+        Ok(listing) => shown(alloc, &listing),
+        Err(ListingFault::Lawless) => String::from_str(alloc, "lawless"),
+        Err(ListingFault::Memory) => String::from_str(alloc, "memory"),
+    }
+}
+
+/// Checks that this is listed of the names, or that this is why nothing is.
+fn expect_listed(alloc: Global, given: Given, want: &'static str) -> Result<(), Fail> {
+    let text = listed(alloc, given)?;
+    if text.as_str() == want {
+        return Ok(());
+    }
+    Err(Fail::from((want, text)))
+}
+
 #[test]
 fn listed_names(rt: HostRuntime) -> Result<(), Fail> {
     for (given, want) in LISTED {
-        let text = match Listing::new(rt.alloc(), 7, children(rt.alloc(), given)?) {
-            Ok(listing) => {
-                assert_eq!(rt; listing.number(), 7);
-                assert_eq!(rt; listing.fh(), 0);
-                told(rt.alloc(), listing.entries())?
-            }
-            Err(ListingFault::Lawless) => String::from_str(rt.alloc(), "lawless")?,
-            Err(ListingFault::Memory) => String::from_str(rt.alloc(), "memory")?,
-        };
-        assert_eq!(rt; text.as_str(), want);
+        expect_listed(rt.alloc(), *given, *want)?;
     }
     Ok(())
 }
@@ -76,7 +94,7 @@ fn listed_names(rt: HostRuntime) -> Result<(), Fail> {
 /// Whether with attributes, from which offset, for how many bytes, and the page as text.
 type Row = (bool, u64, u32, &'static str);
 
-const PAGES: [(Given, &[Row]); 2] = [
+const PAGES: &[(Given, &[Row])] = &[
     (
         FILES,
         &[
@@ -107,20 +125,35 @@ const PAGES: [(Given, &[Row]); 2] = [
     ),
 ];
 
+/// The entries of a page, or why there is none.
+fn paged(
+    alloc: Global,
+    listing: &Listing,
+    plus: bool,
+    offset: u64,
+    size: u32,
+) -> Result<String, AllocError> {
+    match listing.page(offset, size, plus) {
+        Ok(page) if page.from == offset => told(alloc, page.entries),
+        Ok(_) => String::from_str(alloc, "from elsewhere"),
+        Err(PageFault::Small) => String::from_str(alloc, "small"),
+    }
+}
+
+fn expect_pages(alloc: Global, listing: &Listing, rows: &[Row]) -> Result<(), Fail> {
+    for (plus, offset, size, want) in rows {
+        let text = paged(alloc, listing, *plus, *offset, *size)?;
+        if text.as_str() != *want {
+            return Err(Fail::from((*plus, *offset, *size)));
+        }
+    }
+    Ok(())
+}
+
 #[test]
 fn pages_by_bytes(rt: HostRuntime) -> Result<(), Fail> {
     for (given, rows) in PAGES {
-        let listing = listing(rt.alloc(), given)?;
-        for (plus, offset, size, want) in rows {
-            let text = match listing.page(*offset, *size, *plus) {
-                Ok(page) => {
-                    assert_eq!(rt; page.from, *offset);
-                    told(rt.alloc(), page.entries)?
-                }
-                Err(PageFault::Small) => String::from_str(rt.alloc(), "small")?,
-            };
-            assert_eq!(rt; text.as_str(), *want, "{plus} {offset} {size}");
-        }
+        expect_pages(rt.alloc(), &listing(rt.alloc(), *given)?, rows)?;
     }
     Ok(())
 }
@@ -139,16 +172,30 @@ fn long_name(alloc: Global, len: usize) -> Result<Children, AllocError> {
     Ok(Children::from_vec(list))
 }
 
+/// Whether a name of so many bytes is listed, and then has no room in 279 bytes and has in 280.
+fn fits(alloc: Global, len: usize) -> Result<bool, AllocError> {
+    match Listing::new(alloc, 1, long_name(alloc, len)?) {
+        Ok(listing) => Ok(
+            listing.page(2, 279, false).is_err() && listing.page(2, 280, false).is_ok(),
+        ),
+        Err(_) => Ok(false),
+    }
+}
+
+/// Whether a name of so many bytes is lawless.
+fn is_lawless(alloc: Global, len: usize) -> Result<bool, AllocError> {
+    match Listing::new(alloc, 1, long_name(alloc, len)?) {
+        Ok(_) | Err(ListingFault::Memory) => Ok(false),
+        Err(ListingFault::Lawless) => Ok(true),
+    }
+}
+
 #[test]
 fn longest_name(rt: HostRuntime) -> Result<(), Fail> {
-    let Ok(listing) = Listing::new(rt.alloc(), 1, long_name(rt.alloc(), 255)?) else {
-        return Err(Fail::from("a name of 255 bytes is not listed"));
-    };
-    assert!(rt; listing.page(2, 279, false).is_err());
-    assert!(rt; listing.page(2, 280, false).is_ok());
-    let longer = Listing::new(rt.alloc(), 1, long_name(rt.alloc(), 256)?);
-    assert_eq!(rt; longer.err(), Some(ListingFault::Lawless));
-    Ok(())
+    if fits(rt.alloc(), 255)? && is_lawless(rt.alloc(), 256)? {
+        return Ok(());
+    }
+    Err(Fail::from("255 bytes are not the most"))
 }
 
 /// The names `10000` to `19999`, in the order in which steps of 7,919 reach them.
@@ -162,26 +209,56 @@ fn many_names(alloc: Global) -> Result<Children, AllocError> {
     Ok(Children::from_vec(list))
 }
 
-#[test]
-fn many_names_by_pages(rt: HostRuntime) -> Result<(), Fail> {
-    let Ok(listing) = Listing::new(rt.alloc(), 1, many_names(rt.alloc())?) else {
-        return Err(Fail::from("the names are not listed"));
+/// Whether the entry is the one at that offset.
+fn is_at(alloc: Global, entry: &Child, offset: u64) -> Result<bool, AllocError> {
+    let want = format!(in alloc; "{}", offset.saturating_add(9_998))?;
+    Ok(entry.name.as_bytes() == want.as_bytes())
+}
+
+/// The offset after these entries, which are those from an offset on.
+fn offset_after(alloc: Global, entries: &[Child], from: u64) -> Result<u64, Fail> {
+    let mut offset = from;
+    for entry in entries {
+        if !is_at(alloc, entry, offset)? {
+            return Err(Fail::from(("another name at", offset)));
+        }
+        offset = offset.saturating_add(1);
+    }
+    Ok(offset)
+}
+
+/// The offset after the page at an offset. A page has 128 entries, or is the last one.
+fn turn(alloc: Global, listing: &Listing, offset: u64) -> Result<u64, Fail> {
+    let Ok(page) = listing.page(offset, 4_096, false) else {
+        return Err(Fail::from("an entry has no room"));
     };
+    let next = offset_after(alloc, page.entries, offset)?;
+    if page.entries.len() == 128 || next == 10_002 {
+        return Ok(next);
+    }
+    Err(Fail::from(("a page ends at", next)))
+}
+
+/// Reads page after page until one is empty.
+fn read_all(alloc: Global, listing: &Listing) -> Result<(), Fail> {
     let mut offset = 2u64;
     for _page in 0..1_000 {
-        let Ok(page) = listing.page(offset, 4_096, false) else {
-            return Err(Fail::from("an entry has no room"));
-        };
-        for entry in page.entries {
-            let want = format!(in rt.alloc(); "{}", offset.saturating_add(9_998))?;
-            assert_eq!(rt; entry.name.as_bytes(), want.as_bytes());
-            offset = offset.saturating_add(1);
-        }
-        if page.entries.is_empty() {
+        let next = turn(alloc, listing, offset)?;
+        if next == offset {
             break;
         }
-        assert!(rt; page.entries.len() == 128 || offset == 10_002);
+        offset = next;
     }
-    assert_eq!(rt; offset, 10_002);
-    Ok(())
+    if offset == 10_002 {
+        return Ok(());
+    }
+    Err(Fail::from(("the last page ends at", offset)))
+}
+
+#[test]
+fn many_names_by_pages(rt: HostRuntime) -> Result<(), Fail> {
+    match Listing::new(rt.alloc(), 1, many_names(rt.alloc())?) {
+        Ok(listing) => read_all(rt.alloc(), &listing),
+        Err(_) => Err(Fail::from("the names are not listed")),
+    }
 }

@@ -1,13 +1,14 @@
 //! Attributes of the host in requests and in replies.
 
-use crate::protocol::bytes::{SIXTEEN, bytes_of};
-use crate::protocol::frames::{NOBODY, Row, are_read, are_written};
+use crate::protocol::bytes::SIXTEEN;
+use crate::protocol::dirents::expect_plus_dirent;
+use crate::protocol::frames::{NOBODY, Row, are_read_and_written};
 use crate::protocol::replies::Says::{Attr, Created, Given};
 use crate::protocol::replies::{OF_A_FILE, Row as Told, are_told};
 use payload::{Details, Kind, Time};
 use std::test::Fail;
 use wire::Operation::{Create, MakeDir, SetAttr};
-use wire::{Attributes, Entry, NewAttributes, encode_plus_dirent};
+use wire::{Attributes, Entry, NewAttributes};
 
 /// No two fields that are read have the same bytes.
 const ASKED: &[Row] = &[
@@ -168,8 +169,7 @@ const TOLD: &[Told] = &[
 
 #[test]
 fn attributes_that_are_asked_for(rt: HostRuntime) -> Result<(), Fail> {
-    are_read(rt.alloc(), NOBODY, ASKED)?;
-    are_written(rt.alloc(), NOBODY, ASKED)
+    are_read_and_written(rt.alloc(), NOBODY, ASKED)
 }
 
 #[test]
@@ -180,17 +180,11 @@ fn attributes_that_are_told(rt: HostRuntime) -> Result<(), Fail> {
 /// The entry of READDIRPLUS has the inode number twice, and the node number once.
 #[test]
 fn inode_number_of_an_entry(rt: HostRuntime) -> Result<(), Fail> {
-    let mut out = Vec::new(rt.alloc());
-    encode_plus_dirent(&mut out, Some(ENTRY), 3, Kind::File, b"a")?;
-    let bytes = bytes_of(
-        rt.alloc(),
-        &[
-            NODE,
-            LONG,
-            SHORT,
-            "0807060504030201 0300000000000000 01000000 08000000 6100000000000000",
-        ],
-    )?;
-    assert_eq!(rt; out.as_slice(), bytes.as_slice());
-    Ok(())
+    let texts = [
+        NODE,
+        LONG,
+        SHORT,
+        "0807060504030201 0300000000000000 01000000 08000000 6100000000000000",
+    ];
+    expect_plus_dirent(rt.alloc(), Some(ENTRY), Kind::File, &texts, "its number")
 }

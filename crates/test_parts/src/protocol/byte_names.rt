@@ -4,6 +4,7 @@ use crate::protocol::bytes::SIXTEEN;
 use crate::protocol::faults::Piece::{Bytes, Each};
 use crate::protocol::faults::{Row as Faulty, are_told, are_told_by};
 use crate::protocol::frames::{NOBODY, Row, are_read_by, are_written};
+use std::alloc::Global;
 use std::test::Fail;
 use terms::Names;
 use wire::Operation::{Create, Link, Lookup, MakeDir, MakeLink, Rename, Rename2, Unlink};
@@ -158,24 +159,38 @@ const EITHER: &[Faulty] = &[
     Faulty(RENAME, &[Each(0, 8), Bytes(b"a\0..\0")], Some(NameBad)),
 ];
 
-#[test]
-fn names_that_are_no_text(rt: HostRuntime) -> Result<(), Fail> {
-    are_read_by(rt.alloc(), Names::Bytes, NOBODY, WRITTEN)?;
-    are_written(rt.alloc(), NOBODY, WRITTEN)
+/// Each is read as its request where names are bytes, and written.
+fn are_bytes<'a>(alloc: Global, rows: &[Row<'a>]) -> Result<(), Fail> {
+    are_read_by(alloc, Names::Bytes, NOBODY, rows)?;
+    are_written(alloc, NOBODY, rows)
 }
 
 #[test]
-fn names_that_only_one_takes(rt: HostRuntime) -> Result<(), Fail> {
-    are_told(rt.alloc(), UNSPELLED)?;
-    for row in UNSPELLED {
-        let Faulty(opcode, body, _) = *row;
-        are_told_by(rt.alloc(), Names::Bytes, &[Faulty(opcode, body, None)])?;
+fn names_that_are_no_text(rt: HostRuntime) -> Result<(), Fail> {
+    are_bytes(rt.alloc(), WRITTEN)
+}
+
+/// Each has its fault where names are texts, and none where they are bytes.
+fn are_no_texts(alloc: Global, rows: &[Faulty]) -> Result<(), Fail> {
+    are_told(alloc, rows)?;
+    for row in rows {
+        are_told_by(alloc, Names::Bytes, &[Faulty(row.0, row.1, None)])?;
     }
     Ok(())
 }
 
 #[test]
+fn names_that_only_one_takes(rt: HostRuntime) -> Result<(), Fail> {
+    are_no_texts(rt.alloc(), UNSPELLED)
+}
+
+/// Each is told whichever names are taken.
+fn are_told_alike(alloc: Global, rows: &[Faulty]) -> Result<(), Fail> {
+    are_told(alloc, rows)?;
+    are_told_by(alloc, Names::Bytes, rows)
+}
+
+#[test]
 fn names_that_both_take_or_refuse(rt: HostRuntime) -> Result<(), Fail> {
-    are_told(rt.alloc(), EITHER)?;
-    are_told_by(rt.alloc(), Names::Bytes, EITHER)
+    are_told_alike(rt.alloc(), EITHER)
 }

@@ -18,3 +18,12 @@ pub fn bytes_of(alloc: Global, texts: &[&str]) -> Result<Vec<u8>, Fail> {
     }
     Ok(hex::decode(alloc, digits)?)
 }
+
+/// Checks that what was written are the bytes that these texts spell. An error says what was written.
+pub fn expect_bytes(alloc: Global, written: &[u8], texts: &[&str], what: &str) -> Result<(), Fail> {
+    let wanted = bytes_of(alloc, texts)?;
+    if written == wanted.as_slice() {
+        return Ok(());
+    }
+    Err(Fail::from(("other bytes", what)))
+}

@@ -1,6 +1,6 @@
 //! Who made a request: the user and the group in its header. After them come the process and bytes without meaning.
 
-use crate::protocol::frames::{Row, are_read, are_written};
+use crate::protocol::frames::{Row, are_read, are_read_and_written};
 use std::test::Fail;
 use wire::Caller;
 use wire::Operation::{Destroy, Lookup, MakeDir};
@@ -80,8 +80,7 @@ fn callers_of_requests(rt: HostRuntime) -> Result<(), Fail> {
         (Caller { uid: 1000, gid: 0 }, LONE_USER),
         (Caller { uid: 0, gid: 100 }, LONE_GROUP),
     ] {
-        are_read(alloc, caller, rows)?;
-        are_written(alloc, caller, rows)?;
+        are_read_and_written(alloc, caller, rows)?;
     }
     Ok(())
 }

@@ -1,7 +1,7 @@
 //! Faulty frames, and which fault is returned.
 
 use Piece::{Bytes, Each};
-use std::alloc::Global;
+use std::alloc::{AllocError, Global};
 use std::test::Fail;
 use terms::Names;
 use wire::WireFault::{Body, Frame, NameBad, NameLong, Opcode};
@@ -13,7 +13,7 @@ use wire::{
 };
 
 /// A piece of a body.
-#[derive(Clone, Copy, Debug)]
+#[derive(Clone, Copy)]
 pub enum Piece<'a> {
     Bytes(&'a [u8]),
     /// A byte, and how many times.
@@ -21,7 +21,7 @@ pub enum Piece<'a> {
 }
 
 /// An opcode, what follows the header, and the fault that is returned.
-#[derive(Clone, Copy, Debug)]
+#[derive(Clone, Copy)]
 pub struct Row<'a>(pub u32, pub &'a [Piece<'a>], pub Option<WireFault>);
 
 /// The length of a body is not that of its opcode, or there are not as many zero bytes as names.
@@ -204,25 +204,42 @@ const OPCODES: &[Row] = &[
     Row(8, &[Each(0, 69593)], Some(Frame)),
 ];
 
-/// A frame with that body, of request 0 for node 0.
-fn frame_of(alloc: Global, opcode: u32, pieces: &[Piece]) -> Result<Vec<u8>, Fail> {
-    let mut body = Vec::new(alloc);
-    for piece in pieces {
-        match *piece {
-            Bytes(bytes) => body.extend_from_slice(bytes)?,
-            Each(byte, count) => {
-                for _ in 0..count {
-                    body.push(byte)?;
-                }
+/// Puts the piece behind what stands there.
+fn put_piece(body: &mut Vec<u8>, piece: Piece) -> Result<(), AllocError> {
+    match piece {
+        Bytes(bytes) => body.extend_from_slice(bytes),
+        Each(byte, count) => {
+            for _ in 0..count {
+                body.push(byte)?;
             }
+            Ok(())
         }
     }
+}
+
+/// Puts a frame with that body there.
+fn put_frame(frame: &mut Vec<u8>, opcode: u32, body: &[u8]) -> Result<(), Fail> {
     let len = HEADER_LEN.checked_add(body.len()).ok_or("a long body")?;
-    let mut frame = Vec::new(alloc);
     frame.extend_from_slice(&len.to_le_bytes()[..4])?;
     frame.extend_from_slice(&opcode.to_le_bytes())?;
     frame.extend_from_slice(&[0; 32])?;
-    frame.extend_from_slice(&body)?;
+    frame.extend_from_slice(body)?;
+    Ok(())
+}
+
+fn body_of(alloc: Global, pieces: &[Piece]) -> Result<Vec<u8>, AllocError> {
+    let mut body = Vec::new(alloc);
+    for piece in pieces {
+        put_piece(&mut body, *piece)?;
+    }
+    Ok(body)
+}
+
+/// A frame with that body, of request 0 for node 0.
+fn frame_of(alloc: Global, opcode: u32, pieces: &[Piece]) -> Result<Vec<u8>, Fail> {
+    let body = body_of(alloc, pieces)?;
+    let mut frame = Vec::new(alloc);
+    put_frame(&mut frame, opcode, &body)?;
     Ok(frame)
 }
 
@@ -231,17 +248,19 @@ pub fn are_told(alloc: Global, rows: &[Row]) -> Result<(), Fail> {
     are_told_by(alloc, Names::Text, rows)
 }
 
+/// Whether the frame is read, or has its fault, where these names are taken, and is no frame without its last byte.
+fn is_told(alloc: Global, names: Names, row: Row) -> Result<bool, Fail> {
+    let mut frame = frame_of(alloc, row.0, row.1)?;
+    let is_so = decode(&frame, names).err() == row.2;
+    frame.pop();
+    Ok(is_so && decode(&frame, names).err() == Some(Frame))
+}
+
 /// Where these names are taken each frame is read, or has its fault, and without its last byte it is no frame.
 pub fn are_told_by(alloc: Global, names: Names, rows: &[Row]) -> Result<(), Fail> {
     for row in rows {
-        let Row(opcode, body, told) = *row;
-        let mut frame = frame_of(alloc, opcode, body)?;
-        if decode(&frame, names).err() != told {
-            return Err((opcode, told).into());
-        }
-        frame.pop();
-        if decode(&frame, names).err() != Some(Frame) {
-            return Err((opcode, Frame).into());
+        if !is_told(alloc, names, *row)? {
+            return Err(Fail::from((row.0, row.2)));
         }
     }
     Ok(())
@@ -267,37 +286,49 @@ fn faulty_opcodes_and_lengths(rt: HostRuntime) -> Result<(), Fail> {
     are_told(rt.alloc(), OPCODES)
 }
 
+/// The error numbers of the faults.
+const ERRNOS: &[(WireFault, i32)] = &[
+    (Opcode, 38),
+    (NameLong, 36),
+    (Body, 22),
+    (NameBad, 22),
+    (Frame, 22),
+];
+
+/// Opcodes, and whether they are answered.
+const ANSWERED: &[(u32, bool)] = &[
+    (2, false),
+    (6, true),
+    (12, true),
+    (13, true),
+    (36, false),
+    (42, false),
+];
+
+/// Whether a frame of that opcode has its header, and is answered as it is said.
+fn is_answered(alloc: Global, opcode: u32, answered: bool) -> Result<bool, Fail> {
+    let frame = frame_of(alloc, opcode, &[])?;
+    let header = Header {
+        opcode,
+        unique: 0,
+        node: 0,
+        uid: 0,
+        gid: 0,
+    };
+    Ok(header_of(&frame) == Some(header) && has_reply(opcode) == answered)
+}
+
 #[test]
 fn answers_to_faulty_frames(rt: HostRuntime) -> Result<(), Fail> {
-    for (fault, errno) in [
-        (Opcode, 38),
-        (NameLong, 36),
-        (Body, 22),
-        (NameBad, 22),
-        (Frame, 22),
-    ] {
-        assert_eq!(rt; fault.errno(), errno);
+    for (fault, errno) in ERRNOS {
+        if fault.errno() != *errno {
+            return Err(Fail::from(("a fault has not the number", *errno)));
+        }
     }
-    for (opcode, answered) in [
-        (2, false),
-        (6, true),
-        (12, true),
-        (13, true),
-        (36, false),
-        (42, false),
-    ] {
-        let frame = frame_of(rt.alloc(), opcode, &[])?;
-        assert_eq!(rt;
-            header_of(&frame),
-            Some(Header {
-                opcode,
-                unique: 0,
-                node: 0,
-                uid: 0,
-                gid: 0
-            })
-        );
-        assert_eq!(rt; has_reply(opcode), answered);
+    for (opcode, answered) in ANSWERED {
+        if !is_answered(rt.alloc(), *opcode, *answered)? {
+            return Err(Fail::from(("answered otherwise", *opcode)));
+        }
     }
     Ok(())
 }

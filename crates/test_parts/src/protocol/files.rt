@@ -1,7 +1,7 @@
 //! Frames of requests about open files, read and written.
 
 use crate::protocol::bytes::SIXTEEN;
-use crate::protocol::frames::{ALL_ONES, NOBODY, ONES, Row, are_read, are_written};
+use crate::protocol::frames::{ALL_ONES, NOBODY, ONES, Row, are_read, are_read_and_written};
 use std::test::Fail;
 use wire::Operation::{Create, Flush, Open, Read, Release, Sync, Write};
 
@@ -207,7 +207,6 @@ const READ: &[Row] = &[
 
 #[test]
 fn frames_of_open_files(rt: HostRuntime) -> Result<(), Fail> {
-    are_read(rt.alloc(), NOBODY, WRITTEN)?;
-    are_written(rt.alloc(), NOBODY, WRITTEN)?;
+    are_read_and_written(rt.alloc(), NOBODY, WRITTEN)?;
     are_read(rt.alloc(), ALL_ONES, READ)
 }

@@ -2,7 +2,7 @@
 
 use crate::protocol::bytes::bytes_of;
 use payload::Time;
-use std::alloc::Global;
+use std::alloc::{AllocError, Global};
 use std::test::Fail;
 use terms::Names;
 use wire::{Caller, NewAttributes, Operation, Request, decode, encode_request};
@@ -10,13 +10,6 @@ use wire::{Caller, NewAttributes, Operation, Request, decode, encode_request};
 /// A frame in digits, and the request that it is: its number, its node and its operation.
 #[derive(Clone, Copy)]
 pub struct Row<'a>(pub &'a [&'a str], pub u64, pub u64, pub Operation<'a>);
-
-/// What was not as a row says it should be.
-#[derive(Debug, Drop)]
-enum Otherwise<'a> {
-    Read(Request<'a>),
-    Written(Request<'a>),
-}
 
 /// All numbers zero.
 pub const NOTHING_NEW: NewAttributes = NewAttributes {
@@ -45,12 +38,32 @@ pub const ALL_ONES: Caller = Caller {
 /// Bytes of which no zero is.
 pub const ONES: &str = "ffffffff ffffffff ffffffff ffffffff";
 
+/// Each frame is read as its request, by this caller, whichever names are taken, and the request is written as it.
+pub fn are_read_and_written<'a>(
+    alloc: Global,
+    caller: Caller,
+    rows: &[Row<'a>],
+) -> Result<(), Fail> {
+    are_read(alloc, caller, rows)?;
+    are_written(alloc, caller, rows)
+}
+
 /// Each frame is read as its request, by this caller, whichever names are taken.
 pub fn are_read<'a>(alloc: Global, caller: Caller, rows: &[Row<'a>]) -> Result<(), Fail> {
     for names in [Names::Text, Names::Bytes] {
         are_read_by(alloc, names, caller, rows)?;
     }
     Ok(())
+}
+
+/// The request of a row, by this caller.
+fn request_of<'a>(caller: Caller, row: Row<'a>) -> Request<'a> {
+    Request {
+        unique: row.1,
+        node: row.2,
+        caller,
+        operation: row.3,
+    }
 }
 
 /// Each frame is read as its request, by this caller, where these names are taken.
@@ -61,36 +74,27 @@ pub fn are_read_by<'a>(
     rows: &[Row<'a>],
 ) -> Result<(), Fail> {
     for row in rows {
-        let Row(frame, unique, node, operation) = *row;
-        let request = Request {
-            unique,
-            node,
-            caller,
-            operation,
-        };
-        let frame = bytes_of(alloc, frame)?;
-        if decode(&frame, names) != Ok(request) {
-            return Err(Otherwise::Read(request).into());
+        let frame = bytes_of(alloc, row.0)?;
+        if decode(&frame, names) != Ok(request_of(caller, *row)) {
+            return Err(Fail::from(("read otherwise", row.1)));
         }
     }
     Ok(())
 }
 
+/// Whether the request is written as this frame.
+fn is_written(alloc: Global, request: &Request, frame: &[u8]) -> Result<bool, AllocError> {
+    let mut out = Vec::new(alloc);
+    encode_request(request, &mut out)?;
+    Ok(out.as_slice() == frame)
+}
+
 /// Each request of this caller is written as its frame.
 pub fn are_written<'a>(alloc: Global, caller: Caller, rows: &[Row<'a>]) -> Result<(), Fail> {
     for row in rows {
-        let Row(frame, unique, node, operation) = *row;
-        let request = Request {
-            unique,
-            node,
-            caller,
-            operation,
-        };
-        let frame = bytes_of(alloc, frame)?;
-        let mut out = Vec::new(alloc);
-        encode_request(&request, &mut out)?;
-        if out.as_slice() != frame.as_slice() {
-            return Err(Otherwise::Written(request).into());
+        let frame = bytes_of(alloc, row.0)?;
+        if !is_written(alloc, &request_of(caller, *row), &frame)? {
+            return Err(Fail::from(("written otherwise", row.1)));
         }
     }
     Ok(())

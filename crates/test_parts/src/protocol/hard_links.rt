@@ -3,7 +3,7 @@
 use crate::protocol::bytes::SIXTEEN;
 use crate::protocol::faults::Piece::{Bytes, Each};
 use crate::protocol::faults::{Row as Faulty, are_told};
-use crate::protocol::frames::{ALL_ONES, NOBODY, ONES, Row, are_read, are_written};
+use crate::protocol::frames::{ALL_ONES, NOBODY, ONES, Row, are_read, are_read_and_written};
 use std::test::Fail;
 use wire::LINK;
 use wire::Operation::Link;
@@ -109,8 +109,7 @@ const NAMES: &[Faulty] = &[
 
 #[test]
 fn frames_of_hard_links(rt: HostRuntime) -> Result<(), Fail> {
-    are_read(rt.alloc(), NOBODY, WRITTEN)?;
-    are_written(rt.alloc(), NOBODY, WRITTEN)?;
+    are_read_and_written(rt.alloc(), NOBODY, WRITTEN)?;
     are_read(rt.alloc(), ALL_ONES, READ)
 }
 

@@ -1,13 +1,14 @@
 //! What is told of each kind: its attributes, with the type bits of the mode and the device number, and its entry in a
 //! folder.
 
-use crate::protocol::bytes::bytes_of;
+use crate::protocol::dirents::{expect_dirent, expect_plus_dirent};
 use crate::protocol::replies::Says::{Attr, Given};
 use crate::protocol::replies::{OF_A_FILE, Row as Told, TIMES, are_told};
 use payload::Special::{Block, Character, Pipe, Socket};
 use payload::{Details, Kind};
+use std::alloc::Global;
 use std::test::Fail;
-use wire::{Attributes, Entry, NO_INO, encode_dirent, encode_plus_dirent};
+use wire::{Attributes, Entry};
 
 /// A kind, and in digits its mode with the permissions rw-r--r--, its device number and the type of its entry.
 #[derive(Clone, Copy)]
@@ -93,23 +94,48 @@ fn attributes_of_a_link(rt: HostRuntime) -> Result<(), Fail> {
     are_told(rt.alloc(), TOLD)
 }
 
+/// Checks the entry of a kind.
+fn expect_entry(alloc: Global, row: Row) -> Result<(), Fail> {
+    let Row(kind, _, _, told) = row;
+    let texts = [
+        "ffffffff00000000 0300000000000000 01000000",
+        told,
+        "6100000000000000",
+    ];
+    expect_dirent(alloc, kind, &texts, told)
+}
+
+/// The same with its node.
+fn expect_node(alloc: Global, row: Row) -> Result<(), Fail> {
+    let Row(kind, mode, rdev, told) = row;
+    let texts = [
+        NODE,
+        EMPTY,
+        TIMES,
+        mode,
+        "01000000 00000000 00000000",
+        rdev,
+        "00100000 00000000",
+        "0200000000000000 0300000000000000 01000000",
+        told,
+        "6100000000000000",
+    ];
+    let entry = Entry {
+        node: 2,
+        generation: 1,
+        attributes: Attributes {
+            kind,
+            size: 0,
+            details: OF_A_FILE,
+        },
+    };
+    expect_plus_dirent(alloc, Some(entry), kind, &texts, mode)
+}
+
 #[test]
 fn entries_of_each_kind(rt: HostRuntime) -> Result<(), Fail> {
     for row in KINDS {
-        let Row(kind, _, _, told) = *row;
-        let bytes = bytes_of(
-            rt.alloc(),
-            &[
-                "ffffffff00000000 0300000000000000 01000000",
-                told,
-                "6100000000000000",
-            ],
-        )?;
-        let mut out = Vec::new(rt.alloc());
-        encode_dirent(&mut out, NO_INO, 3, kind, b"a")?;
-        if out.as_slice() != bytes.as_slice() {
-            return Err(Fail::from(("the entry of type", told)));
-        }
+        expect_entry(rt.alloc(), *row)?;
     }
     Ok(())
 }
@@ -117,35 +143,7 @@ fn entries_of_each_kind(rt: HostRuntime) -> Result<(), Fail> {
 #[test]
 fn nodes_of_each_kind(rt: HostRuntime) -> Result<(), Fail> {
     for row in KINDS {
-        let Row(kind, mode, rdev, told) = *row;
-        let parts = [
-            NODE,
-            EMPTY,
-            TIMES,
-            mode,
-            "01000000 00000000 00000000",
-            rdev,
-            "00100000 00000000",
-            "0200000000000000 0300000000000000 01000000",
-            told,
-            "6100000000000000",
-        ];
-        let bytes = bytes_of(rt.alloc(), &parts)?;
-        let attributes = Attributes {
-            kind,
-            size: 0,
-            details: OF_A_FILE,
-        };
-        let entry = Entry {
-            node: 2,
-            generation: 1,
-            attributes,
-        };
-        let mut out = Vec::new(rt.alloc());
-        encode_plus_dirent(&mut out, Some(entry), 3, kind, b"a")?;
-        if out.as_slice() != bytes.as_slice() {
-            return Err(Fail::from(("the node with the mode", mode)));
-        }
+        expect_node(rt.alloc(), *row)?;
     }
     Ok(())
 }

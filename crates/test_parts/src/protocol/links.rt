@@ -3,7 +3,7 @@
 use crate::protocol::bytes::SIXTEEN;
 use crate::protocol::faults::Piece::{Bytes, Each};
 use crate::protocol::faults::{Row as Faulty, are_told};
-use crate::protocol::frames::{ALL_ONES, NOBODY, ONES, Row, are_read, are_written};
+use crate::protocol::frames::{ALL_ONES, NOBODY, ONES, Row, are_read, are_read_and_written};
 use std::test::Fail;
 use wire::Operation::{MakeLink, ReadLink};
 use wire::WireFault::{Body, NameBad, NameLong};
@@ -126,8 +126,7 @@ const TEXTS: &[Faulty] = &[
 
 #[test]
 fn frames_about_links(rt: HostRuntime) -> Result<(), Fail> {
-    are_read(rt.alloc(), NOBODY, WRITTEN)?;
-    are_written(rt.alloc(), NOBODY, WRITTEN)?;
+    are_read_and_written(rt.alloc(), NOBODY, WRITTEN)?;
     are_read(rt.alloc(), ALL_ONES, READ)
 }
 

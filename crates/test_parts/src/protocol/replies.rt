@@ -4,7 +4,7 @@ use crate::protocol::bytes::{SIXTEEN, bytes_of};
 use crate::protocol::greeting::{AGREED, OFFERED};
 use Says::{Attr, Created, Done, Failed, Given, Init, Opened, Sizes, Wrote};
 use payload::{Details, Kind, Payload, Time};
-use std::alloc::Global;
+use std::alloc::{AllocError, Global};
 use std::test::Fail;
 use wire::{Attributes, Entry, InitOut, Reply, ReplyBody, encode_reply, error_frame, write_reply};
 
@@ -236,18 +236,28 @@ fn is_framed(reply: &Reply, bytes: &[u8]) -> bool {
     }
 }
 
+/// Whether the reply is written as these bytes.
+fn is_written(alloc: Global, reply: &Reply, bytes: &[u8]) -> Result<bool, AllocError> {
+    let mut out = Vec::new(alloc);
+    encode_reply(reply, &mut out)?;
+    Ok(out.as_slice() == bytes && is_framed(reply, bytes))
+}
+
+/// Checks that the reply is written as the bytes that these texts spell.
+pub fn expect_reply(alloc: Global, reply: &Reply, texts: &[&str]) -> Result<(), Fail> {
+    let bytes = bytes_of(alloc, texts)?;
+    if is_written(alloc, reply, &bytes)? {
+        return Ok(());
+    }
+    Err(Fail::from(("the reply to", reply.unique)))
+}
+
 /// Each reply is written as its bytes.
 pub fn are_told(alloc: Global, rows: &[Row]) -> Result<(), Fail> {
     for row in rows {
-        let Row(unique, says, bytes) = *row;
+        let Row(unique, says, texts) = *row;
         let body = body_of(says);
-        let reply = Reply { unique, body };
-        let bytes = bytes_of(alloc, bytes)?;
-        let mut out = Vec::new(alloc);
-        encode_reply(&reply, &mut out)?;
-        if out.as_slice() != bytes.as_slice() || !is_framed(&reply, &bytes) {
-            return Err(Fail::from(("the reply to", unique)));
-        }
+        expect_reply(alloc, &Reply { unique, body }, texts)?;
     }
     Ok(())
 }
@@ -268,20 +278,30 @@ const THREE_WRITTEN: [u8; 24] = [
     3, 0, 0, 0, 0, 0, 0, 0, // size, and what is not read
 ];
 
+/// The bytes `abc` behind so many others.
+fn abc_behind(alloc: Global, room: usize) -> Result<ReplyBody, AllocError> {
+    let mut buffer = vec![in alloc; 9u8; room]?;
+    buffer.extend_from_slice(b"abc")?;
+    Ok(ReplyBody::Data(Payload::behind(room, buffer)))
+}
+
+/// Whether these bytes take the place of what stood in the buffer.
+fn takes_place(alloc: Global, body: ReplyBody, bytes: &[u8]) -> Result<bool, AllocError> {
+    let mut out = Vec::from_slice(alloc, b"what stood there")?;
+    write_reply(Reply { unique: 7, body }, &mut out)?;
+    Ok(out.as_slice() == bytes)
+}
+
 #[test]
 fn bytes_behind_any_room(rt: HostRuntime) -> Result<(), Fail> {
     let alloc = rt.alloc();
     for room in [0, 15, 16, 17] {
-        let mut buffer = vec![in alloc; 9u8; room]?;
-        buffer.extend_from_slice(b"abc")?;
-        let body = ReplyBody::Data(Payload::behind(room, buffer));
-        let mut out = Vec::from_slice(alloc, b"what stood there")?;
-        write_reply(Reply { unique: 7, body }, &mut out)?;
-        assert_eq!(rt; out.as_slice(), ABC.as_slice());
+        if !takes_place(alloc, abc_behind(alloc, room)?, &ABC)? {
+            return Err(Fail::from(("behind so many bytes", room)));
+        }
     }
-    let body = ReplyBody::Wrote { size: 3 };
-    let mut out = Vec::from_slice(alloc, b"what stood there")?;
-    write_reply(Reply { unique: 7, body }, &mut out)?;
-    assert_eq!(rt; out.as_slice(), THREE_WRITTEN.as_slice());
-    Ok(())
+    if takes_place(alloc, ReplyBody::Wrote { size: 3 }, &THREE_WRITTEN)? {
+        return Ok(());
+    }
+    Err(Fail::from("that three bytes were written"))
 }

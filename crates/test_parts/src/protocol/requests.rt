@@ -1,7 +1,7 @@
 //! Reading and writing the frames of requests.
 
 use crate::protocol::bytes::SIXTEEN;
-use crate::protocol::frames::{ALL_ONES, NOBODY, NOTHING_NEW, Row, are_read, are_written};
+use crate::protocol::frames::{ALL_ONES, NOBODY, NOTHING_NEW, Row, are_read, are_read_and_written};
 use crate::protocol::unread::READ;
 use std::test::Fail;
 use wire::Operation::{
@@ -281,7 +281,6 @@ const WRITTEN: &[Row] = &[
 
 #[test]
 fn frames_of_requests(rt: HostRuntime) -> Result<(), Fail> {
-    are_read(rt.alloc(), NOBODY, WRITTEN)?;
-    are_written(rt.alloc(), NOBODY, WRITTEN)?;
+    are_read_and_written(rt.alloc(), NOBODY, WRITTEN)?;
     are_read(rt.alloc(), ALL_ONES, READ)
 }

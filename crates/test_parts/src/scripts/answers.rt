@@ -78,20 +78,19 @@ fn answer_of(alloc: Global, number: u32) -> Result<Answer, AllocError> {
     })
 }
 
-/// The list of answers with that number, after the row's first ones: the first list is empty, then come those with one
-/// answer, and so on. The last ones have one further answer each.
-pub fn answers_of(alloc: Global, row: &Row<'_>, number: u32) -> Result<Vec<Answer>, AllocError> {
-    let mut answers = Vec::new(alloc);
+/// The first answers of a row.
+fn put_first(answers: &mut Vec<Answer>, alloc: Global, row: &Row<'_>) -> Result<(), AllocError> {
     for _ in 0..row.done {
         answers.push(Answer::Done)?;
     }
     for _ in 0..row.files {
         answers.push(answer_of(alloc, 1)?)?;
     }
-    if number >= SHORT {
-        answers.push(answer_of(alloc, number - SHORT + ANSWERS)?)?;
-        return Ok(answers);
-    }
+    Ok(())
+}
+
+/// The answers of the list with that number, which is one of those with at most three.
+fn put_short(answers: &mut Vec<Answer>, alloc: Global, number: u32) -> Result<(), AllocError> {
     let mut left = number;
     for _ in 0..3 {
         if left > 0 {
@@ -100,5 +99,23 @@ pub fn answers_of(alloc: Global, row: &Row<'_>, number: u32) -> Result<Vec<Answe
             left = last / ANSWERS;
         }
     }
+    Ok(())
+}
+
+/// The answers of the list with that number.
+fn put_listed(answers: &mut Vec<Answer>, alloc: Global, number: u32) -> Result<(), AllocError> {
+    if number >= SHORT {
+        answers.push(answer_of(alloc, number - SHORT + ANSWERS)?)?;
+        return Ok(());
+    }
+    put_short(answers, alloc, number)
+}
+
+/// The list of answers with that number, after the row's first ones: the first list is empty, then come those with one
+/// answer, and so on. The last ones have one further answer each.
+pub fn answers_of(alloc: Global, row: &Row<'_>, number: u32) -> Result<Vec<Answer>, AllocError> {
+    let mut answers = Vec::new(alloc);
+    put_first(&mut answers, alloc, row)?;
+    put_listed(&mut answers, alloc, number)?;
     Ok(answers)
 }

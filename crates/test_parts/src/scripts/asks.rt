@@ -6,7 +6,7 @@ use paths::Path;
 use table::Ticket;
 
 /// What a ticket says about its request, apart from its paths.
-#[derive(Clone, Copy, Debug, PartialEq, Eq)]
+#[derive(Clone, Copy, PartialEq, Eq)]
 pub struct Form {
     /// A name is moved to itself.
     pub same: bool,
@@ -26,7 +26,7 @@ pub fn form_of(ticket: &Ticket) -> Form {
 }
 
 /// What is asked of a directory, in terms of the request's paths.
-#[derive(Clone, Copy, Debug, PartialEq, Eq)]
+#[derive(Clone, Copy, PartialEq, Eq)]
 pub enum Ask {
     /// Of the path at this index in the ticket.
     Stat(usize),
@@ -65,14 +65,14 @@ pub enum Ask {
 }
 
 /// The state of a script after some answers.
-#[derive(Clone, Copy, Debug, PartialEq, Eq)]
+#[derive(Clone, Copy, PartialEq, Eq)]
 pub enum Stands {
     Asks(Ask),
     Over(Ends),
 }
 
 /// The result of a script.
-#[derive(Clone, Copy, Debug, PartialEq, Eq)]
+#[derive(Clone, Copy, PartialEq, Eq)]
 pub enum Ends {
     Error(i32),
     Nothing,

@@ -3,12 +3,9 @@
 use crate::scripts::compare::{Row, compare};
 use crate::scripts::rows::OF_THE_ROOT;
 use crate::scripts::setting::{FIXED, HOST};
-use ledger::Blanks;
 use ops::Settings;
 use payload::Time;
-use std::marker::Brand;
 use std::test::Fail;
-use table::Seeds;
 use wire::NewAttributes;
 use wire::Operation::{Create, MakeDir, SetAttr};
 
@@ -83,7 +80,7 @@ fn what_is_set(rt: HostRuntime) -> Result<(), Fail> {
             done: *done,
             ..OF_THE_ROOT
         };
-        compare::<Brand>(rt.alloc(), Seeds::new(&rt)?, Blanks::new(1), &row)?;
+        compare(&rt, &row)?;
     }
     Ok(())
 }
@@ -97,29 +94,35 @@ const MODES: &[(u32, u32)] = &[
     (0, 0),
 ];
 
+/// A folder and a file that are made so.
+fn compare_made(rt: &HostRuntime, settings: Settings, mode: u32, umask: u32) -> Result<(), Fail> {
+    let name = b"a";
+    let flags = 2;
+    let makes = [
+        MakeDir { name, mode, umask },
+        Create {
+            name,
+            flags,
+            mode,
+            umask,
+        },
+    ];
+    for operation in makes {
+        let row = Row {
+            operation,
+            settings,
+            ..OF_THE_ROOT
+        };
+        compare(rt, &row)?;
+    }
+    Ok(())
+}
+
 #[test]
 fn what_is_made(rt: HostRuntime) -> Result<(), Fail> {
     for settings in [FIXED, HOST] {
         for (mode, umask) in MODES {
-            let (mode, umask) = (*mode, *umask);
-            let name = b"a";
-            let makes = [
-                MakeDir { name, mode, umask },
-                Create {
-                    name,
-                    flags: 2,
-                    mode,
-                    umask,
-                },
-            ];
-            for operation in makes {
-                let row = Row {
-                    operation,
-                    settings,
-                    ..OF_THE_ROOT
-                };
-                compare::<Brand>(rt.alloc(), Seeds::new(&rt)?, Blanks::new(1), &row)?;
-            }
+            compare_made(&rt, settings, *mode, *umask)?;
         }
     }
     Ok(())

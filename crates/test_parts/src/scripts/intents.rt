@@ -10,7 +10,7 @@ use table_requests::Handle;
 use wire::{Caller, NewAttributes, Operation, ReplyBody, Request};
 
 /// What a SETATTR of node 5 with handle 7 begins with.
-#[derive(Clone, Copy, Debug, PartialEq, Eq)]
+#[derive(Clone, Copy, PartialEq, Eq)]
 enum Begins {
     /// It is refused with EPERM.
     Refused,

@@ -5,10 +5,7 @@ use crate::scripts::compare::{Row, compare};
 use crate::scripts::owners::Step::{self, Does, Finds, Gives, Opens};
 use crate::scripts::rows::OF_THE_ROOT;
 use crate::scripts::setting::{FIXED, HOST};
-use ledger::Blanks;
-use std::marker::Brand;
 use std::test::Fail;
-use table::Seeds;
 use wire::{Caller, Operation};
 
 /// Somebody.
@@ -269,7 +266,7 @@ const ROWS: &[Row] = &[
 #[test]
 fn what_is_made_belongs_to_its_caller(rt: HostRuntime) -> Result<(), Fail> {
     for row in ROWS {
-        compare::<Brand>(rt.alloc(), Seeds::new(&rt)?, Blanks::new(1), row)?;
+        compare(&rt, row)?;
     }
     Ok(())
 }

@@ -3,11 +3,8 @@
 use crate::scripts::asks::Form;
 use crate::scripts::attribute_rows::NEW;
 use crate::scripts::compare::{Before, Row, compare};
-use ledger::Blanks;
 use ops::Settings;
-use std::marker::Brand;
 use std::test::Fail;
-use table::Seeds;
 use terms::{AttributeSource, Kinds, Names};
 use wire::Caller;
 use wire::Operation::{
@@ -291,7 +288,7 @@ fn scripts_are_those_of_the_slow_program(rt: HostRuntime) -> Result<(), Fail> {
             operation: *operation,
             ..OF_THE_ROOT
         };
-        compare::<Brand>(rt.alloc(), Seeds::new(&rt)?, Blanks::new(1), &row)?;
+        compare(&rt, &row)?;
     }
     Ok(())
 }
@@ -299,7 +296,7 @@ fn scripts_are_those_of_the_slow_program(rt: HostRuntime) -> Result<(), Fail> {
 #[test]
 fn scripts_of_open_files_are_those_of_the_slow_program(rt: HostRuntime) -> Result<(), Fail> {
     for row in ROWS {
-        compare::<Brand>(rt.alloc(), Seeds::new(&rt)?, Blanks::new(1), row)?;
+        compare(&rt, row)?;
     }
     Ok(())
 }

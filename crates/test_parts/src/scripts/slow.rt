@@ -14,7 +14,7 @@ use wire::Operation;
 const CANDIDATES: usize = 10;
 
 /// An answer after checking. Of names and bytes it has only the number.
-#[derive(Clone, Copy, Debug, PartialEq, Eq)]
+#[derive(Clone, Copy)]
 enum Counts {
     Done,
     Found(FoundFile),

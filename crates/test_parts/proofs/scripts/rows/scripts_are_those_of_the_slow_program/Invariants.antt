@@ -1,5 +1,0 @@
-use Rattle.test_parts.proofs.scripts.rows.scripts_are_those_of_the_slow_program.Given as goal
-
--- the table's four ledgers are those of the blanks
-abbrev pub ghosts-compare : goal.ghosts-compare
-ghosts-compare g = record { names = g.blanks }
